@@ -1,0 +1,67 @@
+-- Laws of answers. Assumes nothing.
+use Prim.Native.Nat.{ℕ}
+use mathlib.Core.Path.{_≡_, refl, sym, _∙_, ap}
+use mathlib.Core.Bool.{Bool, true, false}
+use mathlib.Core.List.{List}
+use native.Mathlib.Omega.{arith}
+use Rattle.refusal.specs.Answer.{Answer, done, ended, refused, refusedAt, Code, plain, placed, codeOf, byCode, turned, andThen, isDone, passed, leaves}
+use Rattle.refusal.specs.declared.Refusal.{Refusal}
+
+-- what holds of both kinds of number holds of every refusal
+pub each : (P : Code → Type 0) → ((n : ℕ) → P (plain n)) → ((n at : ℕ) → P (placed n at)) → (f : Refusal) → P (codeOf f)
+each P p q f = go (codeOf f)
+  where
+    go : (k : Code) → P k
+    go (plain n) = p n
+    go (placed n at) = q n at
+
+-- a refusal's answer is the same for every kind of value
+pub turned-as : {A B : Type 0} (f : Refusal) (g : A → ℕ → Answer B) → andThen (turned f) g ≡ turned f
+turned-as {A} {B} f g = each (λ (k : Code). andThen (byCode {A = A} k) g ≡ byCode {A = B} k) (λ n. refl) (λ n at. refl) f
+
+pub turned-passed : (A : Type 0) (f : Refusal) → passed (turned {A = A} f) ≡ turned f
+turned-passed A f = each (λ (k : Code). passed (byCode {A = A} k) ≡ byCode k) (λ n. refl) (λ n at. refl) f
+
+pub turned-not : (A : Type 0) (f : Refusal) → isDone (turned {A = A} f) ≡ false
+turned-not A f = each (λ (k : Code). isDone (byCode {A = A} k) ≡ false) (λ n. refl) (λ n at. refl) f
+
+pub undone : true ≡ false → ⊥
+undone e = let z : _≡_ {A = ℕ} 0 1 = cc in omega arith
+
+-- what is not done stays, whatever was to come
+pub not-done : {A B : Type 0} (a : Answer A) (f : A → ℕ → Answer B) → isDone a ≡ false → passed (andThen a f) ≡ passed a
+not-done (done a next) f e = absurd (undone e)
+not-done ended f e = refl
+not-done (refused n) f e = refl
+not-done (refusedAt n at) f e = refl
+
+pub done-passed : {A : Type 0} (a : Answer A) → isDone (passed a) ≡ isDone a
+done-passed (done a next) = refl
+done-passed ended = refl
+done-passed (refused n) = refl
+done-passed (refusedAt n at) = refl
+
+-- a buffer is left as it was
+pub turned-leaves : (A : Type 0) (f : Refusal) (new old : List ℕ) → leaves (turned {A = A} f) new old ≡ old
+turned-leaves A f new old = each (λ (k : Code). leaves (byCode {A = A} k) new old ≡ old) (λ n. refl) (λ n at. refl) f
+
+-- WHAT CAME BEFORE, from an answer without its value
+
+-- a refusal is the same whatever was to come
+pub turned-on : {A B : Type 0} (a : Answer A) (f : Refusal) (g : A → ℕ → Answer B) → passed a ≡ turned f → andThen a g ≡ turned f
+turned-on (done v next) f g e = absurd (undone (ap (λ (x : Answer (Unit {0})). isDone x) e ∙ turned-not (Unit {0}) f))
+turned-on ended f g e = ap (λ (x : Answer (Unit {0})). andThen x (λ u n. ended)) e ∙ turned-as f (λ u n. ended)
+turned-on (refused n) f g e = ap (λ (x : Answer (Unit {0})). andThen x (λ u n. ended)) e ∙ turned-as f (λ u n. ended)
+turned-on (refusedAt n at) f g e = ap (λ (x : Answer (Unit {0})). andThen x (λ u n. ended)) e ∙ turned-as f (λ u n. ended)
+
+pub done-on : {A : Type 0} (a : Answer A) (next : ℕ) → passed a ≡ done tt next → (v : A) × (a ≡ done v next)
+done-on (done v n) next e = let k : n ≡ next = cc in (v, ap (λ (m : ℕ). done v m) k)
+done-on ended next e = absurd (undone (sym (ap (λ (x : Answer (Unit {0})). isDone x) e)))
+done-on (refused n) next e = absurd (undone (sym (ap (λ (x : Answer (Unit {0})). isDone x) e)))
+done-on (refusedAt n at) next e = absurd (undone (sym (ap (λ (x : Answer (Unit {0})). isDone x) e)))
+
+pub done-is : {A : Type 0} (a : Answer A) → isDone a ≡ true → (v : A) × (next : ℕ) × (a ≡ done v next)
+done-is (done v next) e = (v, next, refl)
+done-is ended e = absurd (undone (sym e))
+done-is (refused n) e = absurd (undone (sym e))
+done-is (refusedAt n at) e = absurd (undone (sym e))

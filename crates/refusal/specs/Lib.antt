@@ -1,0 +1,10 @@
+pub mod Answer
+pub mod Laws
+pub mod Tests
+pub mod Writing
+pub mod Filling
+pub mod Tails
+pub mod Parts
+pub mod Done
+pub mod Ends
+pub mod Bytes
