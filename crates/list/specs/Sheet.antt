@@ -1,0 +1,80 @@
+-- A sheet list in a stream: the count of set entries, then for each the entries skipped since the one before. Assumes nothing.
+use Prim.Native.Nat.{ℕ, zero, suc, _+_}
+use mathlib.Core.Bool.{Bool, true, false, _&&_}
+use mathlib.Core.List.{List, [], _∷_, _++_}
+use lib.Dec.{ltb, leb, eqb}
+use lib.ListN.{length, set, replicate}
+use Rattle.refusal.specs.Answer.{Answer, done, ended, refused, refusedAt, turned, andThen}
+use Rattle.refusal.specs.Writing.{Left, left, writing}
+use Rattle.number.specs.Number.{written, numberAt, inSlice}
+use Rattle.list.specs.declared.Listed.{Listed}
+use Rattle.list.specs.declared.Listed.the-variants.{To, Refused}
+
+-- WRITING
+
+-- how many entries are set
+unfoldable pub ones : List ℕ → ℕ
+ones [] = 0
+ones (x ∷ xs) = elim (eqb x 1) [ true ↦ ones xs + 1 | false ↦ ones xs ]
+
+-- the skips to the set entries, where k entries have been skipped already
+unfoldable pub skips : ℕ → List ℕ → List ℕ
+skips k [] = []
+skips k (x ∷ xs) = elim (eqb x 1) [ true ↦ written k ++ skips 0 xs | false ↦ skips (k + 1) xs ]
+
+unfoldable pub listed : List ℕ → List ℕ
+unfolding ones skips
+listed xs = written (ones xs) ++ skips 0 xs
+
+-- READING
+
+-- n set entries more, the next of them at entry from or later; entries holds those so far. 9: a skip passes the last entry
+unfoldable pub entriesAt : List ℕ → ℕ → ℕ → ℕ → List ℕ → Answer (List ℕ)
+entriesAt s zero from at entries = done entries at
+entriesAt s (suc n) from at entries =
+    andThen (numberAt s at) (λ k next.
+    elim (ltb (from + k) (length entries)) [
+      | true ↦ entriesAt s n (from + k + 1) next (set entries (from + k) 1)
+      | false ↦ refusedAt 9 at
+    ])
+
+-- the list of so many entries at an offset. 9: the count passes the last entry
+unfoldable pub listAt : List ℕ → ℕ → ℕ → Answer (List ℕ)
+unfolding entriesAt
+listAt s size at =
+    andThen (numberAt s at) (λ n next. elim (leb n size) [ true ↦ entriesAt s n 0 next (replicate size 0) | false ↦ refusedAt 9 at ])
+
+-- THE CALLS
+
+abbrev pub told : Listed → Answer (Unit {0})
+told (To next) = done tt next
+told (Refused f) = turned f
+
+-- a list's answer with its buffer
+abbrev pub toldRead : Listed → List ℕ → Left
+toldRead r buffer = left (told r) buffer
+
+-- a buffer takes what is done, and stays as it was where nothing is
+abbrev pub into : Answer (List ℕ) → List ℕ → Left
+into (done entries next) old = left (done tt next) entries
+into ended old = left ended old
+into (refused n) old = left (refused n) old
+into (refusedAt n at) old = left (refusedAt n at) old
+
+abbrev pub readList : List ℕ → ℕ → List ℕ → Left
+readList s at old = into (listAt s (length old) at) old
+
+-- the entries of a list that was read
+abbrev pub kept : Answer (List ℕ) → List ℕ
+kept (done entries next) = entries
+kept ended = []
+kept (refused n) = []
+kept (refusedAt n at) = []
+
+-- each byte is 0 or 1
+unfoldable pub areBits : List ℕ → Bool
+areBits [] = true
+areBits (x ∷ xs) = elim (leb x 1) [ true ↦ areBits xs | false ↦ false ]
+
+abbrev pub writeList : List ℕ → List ℕ → ℕ → Left
+writeList entries old at = writing (inSlice old at ∷ (areBits entries, 4) ∷ []) old at (listed entries)
