@@ -1,0 +1,10 @@
+pub mod Records
+pub mod Streams
+pub mod Calls
+pub mod Laws
+pub mod Fits
+pub mod Header
+pub mod Trip
+pub mod Kinds
+pub mod RoundTrips
+pub mod Printed

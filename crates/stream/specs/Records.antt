@@ -1,0 +1,71 @@
+-- What stands in the streams: the header, a round of the input, and a round of the result. Assumes nothing.
+use Prim.Native.Nat.{ℕ}
+use mathlib.Core.Bool.{Bool, true, false}
+use mathlib.Core.List.{List, [], _∷_, _++_}
+use lib.Dec.{ltb}
+use lib.ListN.{length}
+use Rattle.refusal.specs.Answer.{Answer, done, ended, refused, refusedAt, andThen}
+use Rattle.number.specs.Number.{written, numberAt}
+use Rattle.list.specs.Sheet.{listed, listAt}
+use Rattle.shape.specs.Sizes.{heightOk, distanceOk}
+use Rattle.shape.specs.declared.Shape.{Shape}
+
+-- THE HEADER: height, distance
+
+unfoldable pub header : Shape → List ℕ
+header sh = written (sh .height) ++ written (sh .distance)
+
+-- the height is tested as soon as it is read, and so is the distance
+unfoldable pub headerFrom : List ℕ → ℕ → ℕ → Answer Shape
+headerFrom s h at =
+    elim (heightOk h) [
+      | false ↦ refused 1
+      | true ↦ andThen (numberAt s at) (λ d behind.
+          elim (distanceOk d) [ true ↦ done (record { height = h; distance = d }) behind | false ↦ refused 2 ])
+    ]
+
+unfoldable pub headerAt : List ℕ → ℕ → Answer Shape
+unfolding headerFrom
+headerAt s at = andThen (numberAt s at) (λ h next. headerFrom s h next)
+
+-- no bytes left is an end; anything else is read
+abbrev pub unlessEnded : {A : Type 0} → List ℕ → ℕ → Answer A → Answer A
+unlessEnded s at a = elim (ltb at (length s)) [ true ↦ a | false ↦ ended ]
+
+-- A ROUND OF THE INPUT: one sheet list of its defects
+
+abbrev pub roundAt : List ℕ → ℕ → ℕ → Answer (List ℕ)
+roundAt s detectors at = unlessEnded s at (listAt s detectors at)
+
+-- A ROUND OF THE RESULT: the committed edges, the escaped defects, the merging steps
+
+pub record Result : Type 0 where
+  pub edges : List ℕ
+  pub escapes : List ℕ
+  pub steps : ℕ
+
+unfoldable pub result : Result → List ℕ
+result r = listed (r .edges) ++ (listed (r .escapes) ++ written (r .steps))
+
+unfoldable pub resultFrom : List ℕ → ℕ → ℕ → ℕ → Answer Result
+resultFrom s edges detectors at =
+    andThen (listAt s edges at) (λ committed next.
+    andThen (listAt s detectors next) (λ escaped last.
+    andThen (numberAt s last) (λ steps behind.
+    done (record { edges = committed; escapes = escaped; steps = steps }) behind)))
+
+abbrev pub resultAt : List ℕ → ℕ → ℕ → ℕ → Answer Result
+resultAt s edges detectors at = unlessEnded s at (resultFrom s edges detectors at)
+
+-- the lists of a round that was read
+abbrev pub keptEdges : Answer Result → List ℕ
+keptEdges (done r next) = r .edges
+keptEdges ended = []
+keptEdges (refused n) = []
+keptEdges (refusedAt n at) = []
+
+abbrev pub keptEscapes : Answer Result → List ℕ
+keptEscapes (done r next) = r .escapes
+keptEscapes ended = []
+keptEscapes (refused n) = []
+keptEscapes (refusedAt n at) = []
