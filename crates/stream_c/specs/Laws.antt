@@ -1,0 +1,47 @@
+-- What is seen of an answer, by its case; and what a height and a distance name. Assumes nothing.
+use Prim.Native.Nat.{ℕ}
+use mathlib.Core.Path.{_≡_, refl, sym, _∙_, ap}
+use mathlib.Core.List.{List, [], _∷_, _++_}
+use lib.Dec.{leb}
+use Rattle.refusal.specs.Answer.{Answer, done, ended, Code, byCode, turned}
+use Rattle.refusal.specs.Laws.{each}
+use Rattle.refusal.specs.Tests.{Turned, tests-turned, tests-done, turned-first}
+use Rattle.refusal.specs.declared.Refusal.{Refusal}
+use Rattle.shape.specs.Sizes.{shapeTests, shapeOf, told}
+use Rattle.shape.specs.declared.Shape.{Shape}
+use Rattle.shape.specs.declared.Shaped.{Shaped}
+use Rattle.shape.specs.declared.Shaped.the-variants as shaped
+use Rattle.stream.specs.Calls.{placeTests}
+use Rattle.stream_c.specs.Seen.{Seen, seen, shown, valueOr, shapeBy}
+
+module _ {A : Type 0} (a : Answer A) (place : ℕ) where
+  pub seen-done : (v : A) (next : ℕ) → a ≡ done v next → seen 0 next ≡ shown a place
+  seen-done v next e = sym (ap (λ (x : Answer A). shown x place) e)
+
+  pub seen-ended : a ≡ ended → seen 255 place ≡ shown a place
+  seen-ended e = sym (ap (λ (x : Answer A). shown x place) e)
+
+  pub seen-turned : (f : Refusal) → a ≡ turned f → shown (turned {A = Unit {0}} f) place ≡ shown a place
+  seen-turned f e =
+      each (λ (k : Code). shown (byCode {A = Unit {0}} k) place ≡ shown (byCode {A = A} k) place) (λ n. refl) (λ n at. refl) f
+      ∙ sym (ap (λ (x : Answer A). shown x place) e)
+
+module _ {A : Type 0} (a : Answer A) (of : A → ℕ) (other : ℕ) where
+  pub value-done : (v : A) (next : ℕ) → a ≡ done v next → of v ≡ valueOr a of other
+  value-done v next e = sym (ap (λ (x : Answer A). valueOr x of other) e)
+
+  pub value-ended : a ≡ ended → other ≡ valueOr a of other
+  value-ended e = sym (ap (λ (x : Answer A). valueOr x of other) e)
+
+  pub value-turned : (f : Refusal) → a ≡ turned f → other ≡ valueOr a of other
+  value-turned f e =
+      each (λ (k : Code). other ≡ valueOr (byCode {A = A} k) of other) (λ n. refl) (λ n at. refl) f
+      ∙ sym (ap (λ (x : Answer A). valueOr x of other) e)
+
+module _ (h d : ℕ) (r : Shaped) (e : told r ≡ shapeOf h d) where
+  pub shape-turned : (f : Refusal) → r ≡ shaped.Refused f → (len at : ℕ) → Turned (placeTests (shapeBy h d) len at) f
+  shape-turned f k len at =
+      turned-first (shapeTests h d) ((leb at len, 10) ∷ []) f (tests-turned (shapeTests h d) (shapeBy h d) 0 f (sym e ∙ ap told k))
+
+  pub shape-named : (sh : Shape) → r ≡ shaped.Shape sh → sh ≡ shapeBy h d
+  shape-named sh k = sym (tests-done (shapeTests h d) (shapeBy h d) sh 0 0 (sym e ∙ ap told k))

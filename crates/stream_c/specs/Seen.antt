@@ -1,0 +1,36 @@
+-- What a caller in C sees of an answer: one number for how the call ended, a place, and values where it is done. Assumes nothing.
+use Prim.Native.Nat.{ℕ}
+use Rattle.refusal.specs.Answer.{Answer, done, ended, refused, refusedAt, status, placeOr}
+use Rattle.shape.specs.declared.Shape.{Shape}
+
+-- the status, and the place that the caller lent
+pub record Seen : Type 0 where
+  pub status : ℕ
+  pub place : ℕ
+
+abbrev pub seen : ℕ → ℕ → Seen
+seen n place = record { status = n; place = place }
+
+-- 0 done, 255 no bytes left, else the refusal's number; the place is the offset behind the record or that of the number's first byte, where there is one
+abbrev pub shown : {A : Type 0} → Answer A → ℕ → Seen
+shown a place = seen (status a) (placeOr a place)
+
+-- a value that the caller lent is set where the call is done
+abbrev pub valueOr : {A : Type 0} → Answer A → (A → ℕ) → ℕ → ℕ
+valueOr (done v next) of other = of v
+valueOr ended of other = other
+valueOr (refused n) of other = other
+valueOr (refusedAt n at) of other = other
+
+-- the shape that a height and a distance name, in range or not
+abbrev pub shapeBy : ℕ → ℕ → Shape
+shapeBy height distance = record { height = height; distance = distance }
+
+abbrev pub itself : ℕ → ℕ
+itself n = n
+
+abbrev pub heightOf : Shape → ℕ
+heightOf sh = sh .height
+
+abbrev pub distanceOf : Shape → ℕ
+distanceOf sh = sh .distance

@@ -1,0 +1,248 @@
+// The streams for programs in C: numbers, byte slices and lent numbers only. Each call answers 0 where it is done, 255 where no bytes
+// are left, and else the refusal's number; what that leaves alone stays as it was.
+ghost use mathlib.Core.Path.{_≡_};
+ghost use Rattle.refusal.specs.Answer.{turned};
+ghost use Rattle.number.specs.Number.{numberAt, toldTo, writeNumber};
+ghost use Rattle.list.specs.Sheet.{told as toldListed, readList, writeList};
+ghost use Rattle.stream.specs.Records.{headerAt};
+ghost use Rattle.stream.specs.Calls.{toldRound, writeHeader, readRound, writeRound, readResult, writeResult, resultOf};
+ghost use Rattle.stream_c.specs.Seen.{seen, shown, valueOr, shapeBy, itself, heightOf, distanceOf};
+use list::Listed;
+use number::Read;
+use number::Wrote;
+use refusal::Refusal;
+use shape::Shaped;
+use stream::HeaderRead;
+use stream::ResultRead;
+use stream::RoundRead;
+
+// A refusal's number; the place takes its offset, where it carries one.
+fn refuse(f: Refusal, place: &mut usize) -> u8
+    ensures { λ r. ⌜ seen r (now (place .exit)) ≡ shown (turned {A = Unit {0}} f) (now (place .entry)) ⌝ }
+{
+    let other = *place;
+    *place = refusal::place_or(f, other);
+    refusal::number(f)
+}
+
+// A writer's answer.
+fn wrote(w: Wrote, place: &mut usize) -> u8
+    ensures { λ r. ⌜ seen r (now (place .exit)) ≡ shown (toldTo w) (now (place .entry)) ⌝ }
+{
+    match w {
+        Wrote::To(next) => {
+            *place = next;
+            0
+        }
+        Wrote::Not(f) => refuse(f, place),
+    }
+}
+
+#[no_mangle]
+pub extern "C" fn baizeridge_read_number(
+    src: &[u8],
+    at: usize,
+    value: &mut u32,
+    place: &mut usize,
+) -> u8
+    ensures { λ r. ⌜ seen r (now (place .exit)) ≡ shown (numberAt (now (src .entry)) at) (now (place .entry)) ⌝ }
+    ensures { λ r. ⌜ now (value .exit) ≡ valueOr (numberAt (now (src .entry)) at) itself (now (value .entry)) ⌝ }
+{
+    match number::read_number(src, at) {
+        Read::Number(n, next) => {
+            *value = n;
+            *place = next;
+            0
+        }
+        Read::Refused(f) => refuse(f, place),
+    }
+}
+
+#[no_mangle]
+pub extern "C" fn baizeridge_write_number(
+    n: u32,
+    out: &mut [u8],
+    at: usize,
+    place: &mut usize,
+) -> u8
+    ensures { λ r. ⌜ seen r (now (place .exit)) ≡ shown (writeNumber n (now (out .entry)) at .answer) (now (place .entry)) ⌝ }
+    ensures { λ r. ⌜ now (out .exit) ≡ writeNumber n (now (out .entry)) at .buffer ⌝ }
+{
+    let w = number::write_number(n, out, at);
+    wrote(w, place)
+}
+
+#[no_mangle]
+pub extern "C" fn baizeridge_read_list(
+    src: &[u8],
+    at: usize,
+    out: &mut [u8],
+    place: &mut usize,
+) -> u8
+    ensures { λ r. ⌜ seen r (now (place .exit)) ≡ shown (readList (now (src .entry)) at (now (out .entry)) .answer) (now (place .entry)) ⌝ }
+    ensures { λ r. ⌜ now (out .exit) ≡ readList (now (src .entry)) at (now (out .entry)) .buffer ⌝ }
+{
+    match list::read_list(src, at, out) {
+        Listed::To(next) => {
+            *place = next;
+            0
+        }
+        Listed::Refused(f) => refuse(f, place),
+    }
+}
+
+#[no_mangle]
+pub extern "C" fn baizeridge_write_list(
+    entries: &[u8],
+    out: &mut [u8],
+    at: usize,
+    place: &mut usize,
+) -> u8
+    ensures { λ r. ⌜ seen r (now (place .exit)) ≡ shown (writeList (now (entries .entry)) (now (out .entry)) at .answer) (now (place .entry)) ⌝ }
+    ensures { λ r. ⌜ now (out .exit) ≡ writeList (now (entries .entry)) (now (out .entry)) at .buffer ⌝ }
+{
+    let w = list::write_list(entries, out, at);
+    wrote(w, place)
+}
+
+#[no_mangle]
+pub extern "C" fn baizeridge_read_header(
+    src: &[u8],
+    at: usize,
+    height: &mut u32,
+    distance: &mut u32,
+    place: &mut usize,
+) -> u8
+    ensures { λ r. ⌜ seen r (now (place .exit)) ≡ shown (headerAt (now (src .entry)) at) (now (place .entry)) ⌝ }
+    ensures { λ r. ⌜ now (height .exit) ≡ valueOr (headerAt (now (src .entry)) at) heightOf (now (height .entry)) ⌝ }
+    ensures { λ r. ⌜ now (distance .exit) ≡ valueOr (headerAt (now (src .entry)) at) distanceOf (now (distance .entry)) ⌝ }
+{
+    match stream::read_header(src, at) {
+        HeaderRead::Shape(shape, next) => {
+            *height = shape.height as u32;
+            *distance = shape.distance as u32;
+            *place = next;
+            0
+        }
+        HeaderRead::Refused(f) => refuse(f, place),
+    }
+}
+
+#[no_mangle]
+pub extern "C" fn baizeridge_write_header(
+    height: u32,
+    distance: u32,
+    out: &mut [u8],
+    at: usize,
+    place: &mut usize,
+) -> u8
+    ensures { λ r. ⌜ seen r (now (place .exit)) ≡ shown (writeHeader (shapeBy height distance) (now (out .entry)) at .answer) (now (place .entry)) ⌝ }
+    ensures { λ r. ⌜ now (out .exit) ≡ writeHeader (shapeBy height distance) (now (out .entry)) at .buffer ⌝ }
+{
+    match shape::shape_of(height, distance) {
+        Shaped::Refused(f) => refuse(f, place),
+        Shaped::Shape(shape) => {
+            let w = stream::write_header(shape, out, at);
+            wrote(w, place)
+        }
+    }
+}
+
+#[no_mangle]
+pub extern "C" fn baizeridge_read_round(
+    height: u32,
+    distance: u32,
+    src: &[u8],
+    at: usize,
+    defects: &mut [u8],
+    place: &mut usize,
+) -> u8
+    ensures { λ r. ⌜ seen r (now (place .exit)) ≡ shown (readRound (shapeBy height distance) (now (src .entry)) at (now (defects .entry)) .answer) (now (place .entry)) ⌝ }
+    ensures { λ r. ⌜ now (defects .exit) ≡ readRound (shapeBy height distance) (now (src .entry)) at (now (defects .entry)) .buffer ⌝ }
+{
+    match shape::shape_of(height, distance) {
+        Shaped::Refused(f) => refuse(f, place),
+        Shaped::Shape(shape) => match stream::read_round(shape, src, at, defects) {
+            RoundRead::To(next) => {
+                *place = next;
+                0
+            }
+            RoundRead::End => 255,
+            RoundRead::Refused(f) => refuse(f, place),
+        },
+    }
+}
+
+#[no_mangle]
+pub extern "C" fn baizeridge_write_round(
+    height: u32,
+    distance: u32,
+    defects: &[u8],
+    out: &mut [u8],
+    at: usize,
+    place: &mut usize,
+) -> u8
+    ensures { λ r. ⌜ seen r (now (place .exit)) ≡ shown (writeRound (shapeBy height distance) (now (defects .entry)) (now (out .entry)) at .answer) (now (place .entry)) ⌝ }
+    ensures { λ r. ⌜ now (out .exit) ≡ writeRound (shapeBy height distance) (now (defects .entry)) (now (out .entry)) at .buffer ⌝ }
+{
+    match shape::shape_of(height, distance) {
+        Shaped::Refused(f) => refuse(f, place),
+        Shaped::Shape(shape) => {
+            let w = stream::write_round(shape, defects, out, at);
+            wrote(w, place)
+        }
+    }
+}
+
+#[no_mangle]
+pub extern "C" fn baizeridge_read_result(
+    height: u32,
+    distance: u32,
+    src: &[u8],
+    at: usize,
+    edges: &mut [u8],
+    escapes: &mut [u8],
+    steps: &mut u32,
+    place: &mut usize,
+) -> u8
+    ensures { λ r. ⌜ seen r (now (place .exit)) ≡ shown (readResult (shapeBy height distance) (now (src .entry)) at (now (edges .entry)) (now (escapes .entry)) .answer) (now (place .entry)) ⌝ }
+    ensures { λ r. ⌜ now (edges .exit) ≡ readResult (shapeBy height distance) (now (src .entry)) at (now (edges .entry)) (now (escapes .entry)) .edges ⌝ }
+    ensures { λ r. ⌜ now (escapes .exit) ≡ readResult (shapeBy height distance) (now (src .entry)) at (now (edges .entry)) (now (escapes .entry)) .escapes ⌝ }
+    ensures { λ r. ⌜ now (steps .exit) ≡ valueOr (readResult (shapeBy height distance) (now (src .entry)) at (now (edges .entry)) (now (escapes .entry)) .answer) itself (now (steps .entry)) ⌝ }
+{
+    match shape::shape_of(height, distance) {
+        Shaped::Refused(f) => refuse(f, place),
+        Shaped::Shape(shape) => match stream::read_result(shape, src, at, edges, escapes) {
+            ResultRead::Steps(n, next) => {
+                *steps = n;
+                *place = next;
+                0
+            }
+            ResultRead::End => 255,
+            ResultRead::Refused(f) => refuse(f, place),
+        },
+    }
+}
+
+#[no_mangle]
+pub extern "C" fn baizeridge_write_result(
+    height: u32,
+    distance: u32,
+    edges: &[u8],
+    escapes: &[u8],
+    steps: u32,
+    out: &mut [u8],
+    at: usize,
+    place: &mut usize,
+) -> u8
+    ensures { λ r. ⌜ seen r (now (place .exit)) ≡ shown (writeResult (shapeBy height distance) (resultOf (now (edges .entry)) (now (escapes .entry)) steps) (now (out .entry)) at .answer) (now (place .entry)) ⌝ }
+    ensures { λ r. ⌜ now (out .exit) ≡ writeResult (shapeBy height distance) (resultOf (now (edges .entry)) (now (escapes .entry)) steps) (now (out .entry)) at .buffer ⌝ }
+{
+    match shape::shape_of(height, distance) {
+        Shaped::Refused(f) => refuse(f, place),
+        Shaped::Shape(shape) => {
+            let w = stream::write_result(shape, edges, escapes, steps, out, at);
+            wrote(w, place)
+        }
+    }
+}
