@@ -1,0 +1,70 @@
+//! The cases that the tests go through.
+
+use crate::random::Random;
+use crate::streams::{Shape, DISTANCES, HEIGHTS};
+
+// Random inputs of each kind; the tests count them. Each is compared in many calls: cut short, damaged, at
+// every offset.
+pub const NUMBERS: usize = 100_000;
+pub const LISTS: usize = 42_000;
+pub const HEADERS: usize = 42_000;
+pub const ROUNDS: usize = 42_000;
+pub const RESULTS: usize = 21_000;
+pub const STREAMS: usize = 21_000;
+
+const _: () = assert!(NUMBERS + LISTS + HEADERS + ROUNDS + RESULTS + STREAMS >= 100_000);
+
+/// Heights and distances that no shape has.
+pub const WILD: [u32; 8] = [0, 16, 17, 127, 128, 0x100 + 3, 1 << 31, u32::MAX];
+
+/// Names the case in which a test failed.
+struct Named {
+    seed: u64,
+    case: usize,
+}
+
+impl Drop for Named {
+    fn drop(&mut self) {
+        if std::thread::panicking() {
+            eprintln!("seed {:#x}, case {}", self.seed, self.case);
+        }
+    }
+}
+
+/// Runs a test on `count` random inputs.
+pub fn each_case(seed: u64, count: usize, mut run: impl FnMut(usize, &mut Random)) {
+    for case in 0..count {
+        let _named = Named { seed, case };
+        run(case, &mut Random::new(seed, case as u64));
+    }
+}
+
+/// All 210 shapes, by height and distance.
+pub fn shapes() -> Vec<(u32, u32, Shape)> {
+    let all: Vec<_> =
+        HEIGHTS.flat_map(|h| DISTANCES.map(move |d| (h, d, Shape::new(h, d).expect("both are in range")))).collect();
+    assert_eq!(all.len(), 210);
+    all
+}
+
+/// Some of the refusals that a call tests for, in their order.
+pub struct Faults {
+    order: &'static [u8],
+    set: usize,
+}
+
+impl Faults {
+    /// Every set of them.
+    pub fn all(order: &'static [u8]) -> impl Iterator<Item = Faults> {
+        (0..1 << order.len()).map(move |set| Faults { order, set })
+    }
+
+    pub fn has(&self, refusal: u8) -> bool {
+        self.order.iter().position(|&other| other == refusal).is_some_and(|place| self.set >> place & 1 == 1)
+    }
+
+    /// The refusal to give.
+    pub fn first(&self) -> Option<u8> {
+        self.order.iter().copied().find(|&refusal| self.has(refusal))
+    }
+}

@@ -1,0 +1,139 @@
+//! Every call made twice, on the second implementation and on the archive, with buffers filled alike.
+//! The answers must be equal, and so must every byte of the buffers and of the guards around them.
+
+use crate::streams::Answer;
+use crate::{proved, streams};
+use std::fmt::Debug;
+
+const GUARD: usize = 24;
+
+/// A buffer to lend, between guard bytes.
+struct Lent {
+    whole: Vec<u8>,
+}
+
+impl Lent {
+    /// Neither 0 nor 1 stands in a new buffer, so that each entry stored is seen.
+    fn new(room: usize) -> Lent {
+        Lent { whole: (0..room + 2 * GUARD).map(|place| (place * 37 % 251 + 3) as u8).collect() }
+    }
+
+    fn room(&mut self) -> &mut [u8] {
+        let behind = self.whole.len() - GUARD;
+        &mut self.whole[GUARD..behind]
+    }
+}
+
+/// The answer and the buffers, if both sides agree.
+fn both<T: PartialEq + Debug, const N: usize>(
+    rooms: [usize; N],
+    call: impl Fn() -> String,
+    expected: impl FnOnce([&mut [u8]; N]) -> Answer<T>,
+    proved: impl FnOnce([&mut [u8]; N]) -> Answer<T>,
+) -> (Answer<T>, [Vec<u8>; N]) {
+    let mut ours = rooms.map(Lent::new);
+    let mut theirs = rooms.map(Lent::new);
+    let answer = expected(ours.each_mut().map(Lent::room));
+    let given = proved(theirs.each_mut().map(Lent::room));
+    assert!(given == answer, "{}: the archive answers {given:?}, not {answer:?}", call());
+    for (ours, theirs) in ours.iter().zip(&theirs) {
+        if let Some(place) = (0..ours.whole.len()).find(|&place| ours.whole[place] != theirs.whole[place]) {
+            let (given, wanted) = (theirs.whole[place], ours.whole[place]);
+            let place = place as isize - GUARD as isize;
+            panic!("{}: byte {place} of the buffer is {given:02x}, not {wanted:02x}", call());
+        }
+    }
+    (answer, ours.map(|mut lent| lent.room().to_vec()))
+}
+
+pub fn read_number(src: &[u8], at: usize) -> Answer<u32> {
+    let call = || format!("read_number {src:02x?} at {at}");
+    both([], call, |[]| streams::read_number(src, at), |[]| proved::read_number(src, at)).0
+}
+
+pub fn write_number(n: u32, room: usize, at: usize) -> (Answer<()>, Vec<u8>) {
+    let (answer, [out]) = both(
+        [room],
+        || format!("write_number {n} into {room} at {at}"),
+        |[out]| streams::write_number(n, out, at),
+        |[out]| proved::write_number(n, out, at),
+    );
+    (answer, out)
+}
+
+pub fn read_list(src: &[u8], at: usize, size: usize) -> (Answer<()>, Vec<u8>) {
+    let (answer, [list]) = both(
+        [size],
+        || format!("read_list {src:02x?} at {at} into {size}"),
+        |[out]| streams::read_list(src, at, out),
+        |[out]| proved::read_list(src, at, out),
+    );
+    (answer, list)
+}
+
+pub fn write_list(bits: &[u8], room: usize, at: usize) -> (Answer<()>, Vec<u8>) {
+    let (answer, [out]) = both(
+        [room],
+        || format!("write_list {bits:?} into {room} at {at}"),
+        |[out]| streams::write_list(bits, out, at),
+        |[out]| proved::write_list(bits, out, at),
+    );
+    (answer, out)
+}
+
+pub fn read_header(src: &[u8], at: usize) -> Answer<(u32, u32)> {
+    let call = || format!("read_header {src:02x?} at {at}");
+    both([], call, |[]| streams::read_header(src, at), |[]| proved::read_header(src, at)).0
+}
+
+pub fn write_header(h: u32, d: u32, room: usize, at: usize) -> (Answer<()>, Vec<u8>) {
+    let (answer, [out]) = both(
+        [room],
+        || format!("write_header {h} by {d} into {room} at {at}"),
+        |[out]| streams::write_header(h, d, out, at),
+        |[out]| proved::write_header(h, d, out, at),
+    );
+    (answer, out)
+}
+
+pub fn read_round(h: u32, d: u32, src: &[u8], at: usize, size: usize) -> (Answer<()>, Vec<u8>) {
+    let (answer, [defects]) = both(
+        [size],
+        || format!("read_round {h} by {d} {src:02x?} at {at} into {size}"),
+        |[out]| streams::read_round(h, d, src, at, out),
+        |[out]| proved::read_round(h, d, src, at, out),
+    );
+    (answer, defects)
+}
+
+pub fn write_round(h: u32, d: u32, defects: &[u8], room: usize, at: usize) -> (Answer<()>, Vec<u8>) {
+    let (answer, [out]) = both(
+        [room],
+        || format!("write_round {h} by {d} {defects:?} into {room} at {at}"),
+        |[out]| streams::write_round(h, d, defects, out, at),
+        |[out]| proved::write_round(h, d, defects, out, at),
+    );
+    (answer, out)
+}
+
+/// `sizes` are those of the edge buffer and of the escape buffer, which come back in that order.
+pub fn read_result(h: u32, d: u32, src: &[u8], at: usize, sizes: [usize; 2]) -> (Answer<u32>, [Vec<u8>; 2]) {
+    both(
+        sizes,
+        || format!("read_result {h} by {d} {src:02x?} at {at} into {sizes:?}"),
+        |[edges, escapes]| streams::read_result(h, d, src, at, edges, escapes),
+        |[edges, escapes]| proved::read_result(h, d, src, at, edges, escapes),
+    )
+}
+
+/// `lists` are the committed edges and the escaped defects.
+pub fn write_result(h: u32, d: u32, lists: [&[u8]; 2], steps: u32, room: usize, at: usize) -> (Answer<()>, Vec<u8>) {
+    let [edges, escapes] = lists;
+    let (answer, [out]) = both(
+        [room],
+        || format!("write_result {h} by {d} {lists:?} {steps} into {room} at {at}"),
+        |[out]| streams::write_result(h, d, edges, escapes, steps, out, at),
+        |[out]| proved::write_result(h, d, edges, escapes, steps, out, at),
+    );
+    (answer, out)
+}

@@ -1,0 +1,219 @@
+//! The proved archive. Nothing checks these declarations against the Rattle source, so each wrapper also
+//! holds the archive to the calling convention: out-parameters lie between guards, and stay as they were
+//! where the convention says so.
+
+use crate::streams::{Answer, Done, Stop};
+
+extern "C" {
+    fn baizeridge_read_number(src: *const u8, src_len: usize, at: usize, value: *mut u32, place: *mut usize) -> u8;
+    fn baizeridge_write_number(n: u32, out: *mut u8, out_len: usize, at: usize, place: *mut usize) -> u8;
+    fn baizeridge_read_list(
+        src: *const u8,
+        src_len: usize,
+        at: usize,
+        out: *mut u8,
+        out_len: usize,
+        place: *mut usize,
+    ) -> u8;
+    fn baizeridge_write_list(
+        bits: *const u8,
+        bits_len: usize,
+        out: *mut u8,
+        out_len: usize,
+        at: usize,
+        place: *mut usize,
+    ) -> u8;
+    fn baizeridge_read_header(
+        src: *const u8,
+        src_len: usize,
+        at: usize,
+        height: *mut u32,
+        distance: *mut u32,
+        place: *mut usize,
+    ) -> u8;
+    fn baizeridge_write_header(
+        height: u32,
+        distance: u32,
+        out: *mut u8,
+        out_len: usize,
+        at: usize,
+        place: *mut usize,
+    ) -> u8;
+    fn baizeridge_read_round(
+        height: u32,
+        distance: u32,
+        src: *const u8,
+        src_len: usize,
+        at: usize,
+        defects: *mut u8,
+        defects_len: usize,
+        place: *mut usize,
+    ) -> u8;
+    fn baizeridge_write_round(
+        height: u32,
+        distance: u32,
+        defects: *const u8,
+        defects_len: usize,
+        out: *mut u8,
+        out_len: usize,
+        at: usize,
+        place: *mut usize,
+    ) -> u8;
+    fn baizeridge_read_result(
+        height: u32,
+        distance: u32,
+        src: *const u8,
+        src_len: usize,
+        at: usize,
+        edges: *mut u8,
+        edges_len: usize,
+        escapes: *mut u8,
+        escapes_len: usize,
+        steps: *mut u32,
+        place: *mut usize,
+    ) -> u8;
+    fn baizeridge_write_result(
+        height: u32,
+        distance: u32,
+        edges: *const u8,
+        edges_len: usize,
+        escapes: *const u8,
+        escapes_len: usize,
+        steps: u32,
+        out: *mut u8,
+        out_len: usize,
+        at: usize,
+        place: *mut usize,
+    ) -> u8;
+}
+
+const PLACE: usize = 0x5a5a_5a5a_5a5a_5a5a;
+const VALUE: u32 = 0xa5a5_a5a5;
+
+/// Makes a call with its out-parameters, and reads its status and them as an answer.
+fn answer<const N: usize>(call: impl FnOnce([*mut u32; N], *mut usize) -> u8) -> Answer<[u32; N]> {
+    let mut place = [PLACE; 3];
+    let mut values = [[VALUE; 3]; N];
+    let status =
+        call(values.each_mut().map(|value| value.as_mut_ptr().wrapping_add(1)), place.as_mut_ptr().wrapping_add(1));
+    let guards = values.iter().all(|value| (value[0], value[2]) == (VALUE, VALUE));
+    assert!(guards && (place[0], place[2]) == (PLACE, PLACE), "status {status}: stored beside an out-parameter");
+    let (values, place) = (values.map(|value| value[1]), place[1]);
+    assert!(status == 0 || values == [VALUE; N], "status {status}: a value was stored");
+    assert!(matches!(status, 0 | 7..=9) || place == PLACE, "status {status}: an offset was stored");
+    match status {
+        0 => Ok(Done(values, place)),
+        255 => Err(Stop::End),
+        7..=9 => Err(Stop::RefusedAt(status, place)),
+        _ => Err(Stop::Refused(status)),
+    }
+}
+
+fn alone(answer: Answer<[u32; 0]>) -> Answer<()> {
+    answer.map(|Done(_, next)| Done((), next))
+}
+
+fn with_value(answer: Answer<[u32; 1]>) -> Answer<u32> {
+    answer.map(|Done([value], next)| Done(value, next))
+}
+
+// SAFETY, for every call below: each pointer comes with the length of the slice that it was taken from, or
+// points to an out-parameter that outlives the call.
+
+pub fn read_number(src: &[u8], at: usize) -> Answer<u32> {
+    with_value(answer(|[value], place| unsafe { baizeridge_read_number(src.as_ptr(), src.len(), at, value, place) }))
+}
+
+pub fn write_number(n: u32, out: &mut [u8], at: usize) -> Answer<()> {
+    alone(answer(|[], place| unsafe { baizeridge_write_number(n, out.as_mut_ptr(), out.len(), at, place) }))
+}
+
+pub fn read_list(src: &[u8], at: usize, out: &mut [u8]) -> Answer<()> {
+    alone(answer(|[], place| unsafe {
+        baizeridge_read_list(src.as_ptr(), src.len(), at, out.as_mut_ptr(), out.len(), place)
+    }))
+}
+
+pub fn write_list(bits: &[u8], out: &mut [u8], at: usize) -> Answer<()> {
+    alone(answer(|[], place| unsafe {
+        baizeridge_write_list(bits.as_ptr(), bits.len(), out.as_mut_ptr(), out.len(), at, place)
+    }))
+}
+
+pub fn read_header(src: &[u8], at: usize) -> Answer<(u32, u32)> {
+    let read = answer(|[height, distance], place| unsafe {
+        baizeridge_read_header(src.as_ptr(), src.len(), at, height, distance, place)
+    });
+    read.map(|Done([height, distance], next)| Done((height, distance), next))
+}
+
+pub fn write_header(height: u32, distance: u32, out: &mut [u8], at: usize) -> Answer<()> {
+    alone(answer(|[], place| unsafe {
+        baizeridge_write_header(height, distance, out.as_mut_ptr(), out.len(), at, place)
+    }))
+}
+
+pub fn read_round(height: u32, distance: u32, src: &[u8], at: usize, defects: &mut [u8]) -> Answer<()> {
+    let (to, to_len) = (defects.as_mut_ptr(), defects.len());
+    alone(answer(|[], place| unsafe {
+        baizeridge_read_round(height, distance, src.as_ptr(), src.len(), at, to, to_len, place)
+    }))
+}
+
+pub fn write_round(height: u32, distance: u32, defects: &[u8], out: &mut [u8], at: usize) -> Answer<()> {
+    let (from, from_len) = (defects.as_ptr(), defects.len());
+    alone(answer(|[], place| unsafe {
+        baizeridge_write_round(height, distance, from, from_len, out.as_mut_ptr(), out.len(), at, place)
+    }))
+}
+
+pub fn read_result(
+    height: u32,
+    distance: u32,
+    src: &[u8],
+    at: usize,
+    edges: &mut [u8],
+    escapes: &mut [u8],
+) -> Answer<u32> {
+    with_value(answer(|[steps], place| unsafe {
+        baizeridge_read_result(
+            height,
+            distance,
+            src.as_ptr(),
+            src.len(),
+            at,
+            edges.as_mut_ptr(),
+            edges.len(),
+            escapes.as_mut_ptr(),
+            escapes.len(),
+            steps,
+            place,
+        )
+    }))
+}
+
+pub fn write_result(
+    height: u32,
+    distance: u32,
+    edges: &[u8],
+    escapes: &[u8],
+    steps: u32,
+    out: &mut [u8],
+    at: usize,
+) -> Answer<()> {
+    alone(answer(|[], place| unsafe {
+        baizeridge_write_result(
+            height,
+            distance,
+            edges.as_ptr(),
+            edges.len(),
+            escapes.as_ptr(),
+            escapes.len(),
+            steps,
+            out.as_mut_ptr(),
+            out.len(),
+            at,
+            place,
+        )
+    }))
+}

@@ -1,0 +1,153 @@
+//! Whole streams, from the header to the end, on the archive alone.
+
+use baizeridge_tests::cases::{each_case, shapes, STREAMS};
+use baizeridge_tests::proved;
+use baizeridge_tests::random::Random;
+use baizeridge_tests::streams::{number_bytes, Done, Shape, Stop};
+
+/// A kind of stream: what a record holds, and how the archive reads and writes one.
+trait Record: Sized + Clone + PartialEq + std::fmt::Debug {
+    fn random(shape: Shape, random: &mut Random) -> Self;
+    fn read(h: u32, d: u32, src: &[u8], at: usize) -> Result<Done<Self>, Stop>;
+    fn write(&self, h: u32, d: u32, out: &mut [u8], at: usize) -> Result<Done<()>, Stop>;
+}
+
+fn detectors(h: u32, d: u32) -> Result<usize, Stop> {
+    Ok(Shape::new(h, d)?.detectors())
+}
+
+#[derive(Clone, PartialEq, Debug)]
+struct Input {
+    defects: Vec<u8>,
+}
+
+impl Record for Input {
+    fn random(shape: Shape, random: &mut Random) -> Input {
+        Input { defects: random.bits(shape.detectors()) }
+    }
+
+    fn read(h: u32, d: u32, src: &[u8], at: usize) -> Result<Done<Input>, Stop> {
+        let mut defects = vec![9; detectors(h, d)?];
+        let Done((), next) = proved::read_round(h, d, src, at, &mut defects)?;
+        Ok(Done(Input { defects }, next))
+    }
+
+    fn write(&self, h: u32, d: u32, out: &mut [u8], at: usize) -> Result<Done<()>, Stop> {
+        proved::write_round(h, d, &self.defects, out, at)
+    }
+}
+
+#[derive(Clone, PartialEq, Debug)]
+struct Output {
+    edges: Vec<u8>,
+    escapes: Vec<u8>,
+    steps: u32,
+}
+
+impl Record for Output {
+    fn random(shape: Shape, random: &mut Random) -> Output {
+        let (edges, escapes) = (random.bits(shape.edges()), random.bits(shape.detectors()));
+        Output { edges, escapes, steps: random.number() }
+    }
+
+    fn read(h: u32, d: u32, src: &[u8], at: usize) -> Result<Done<Output>, Stop> {
+        let (mut edges, mut escapes) = (vec![9; Shape::new(h, d)?.edges()], vec![9; detectors(h, d)?]);
+        let Done(steps, next) = proved::read_result(h, d, src, at, &mut edges, &mut escapes)?;
+        Ok(Done(Output { edges, escapes, steps }, next))
+    }
+
+    fn write(&self, h: u32, d: u32, out: &mut [u8], at: usize) -> Result<Done<()>, Stop> {
+        proved::write_result(h, d, &self.edges, &self.escapes, self.steps, out, at)
+    }
+}
+
+/// A stream read to its end, or why not.
+fn read_all<R: Record>(src: &[u8]) -> Result<(u32, u32, Vec<R>), Stop> {
+    let Done((h, d), mut at) = proved::read_header(src, 0)?;
+    let mut records = vec![];
+    loop {
+        match R::read(h, d, src, at) {
+            Ok(Done(record, next)) => {
+                assert!(at < next && next <= src.len());
+                records.push(record);
+                at = next;
+            }
+            Err(Stop::End) => return Ok((h, d, records)),
+            Err(stop) => return Err(stop),
+        }
+    }
+}
+
+/// A stream written into a buffer of `room` bytes.
+fn write_all<R: Record>(h: u32, d: u32, records: &[R], room: usize) -> Result<Vec<u8>, Stop> {
+    let mut out = vec![0xee; room];
+    let Done((), mut at) = proved::write_header(h, d, &mut out, 0)?;
+    for record in records {
+        let Done((), next) = record.write(h, d, &mut out, at)?;
+        at = next;
+    }
+    assert!(out[at..].iter().all(|&byte| byte == 0xee), "bytes behind the stream were touched");
+    out.truncate(at);
+    Ok(out)
+}
+
+fn a_list_of_rounds_reads_back<R: Record>(seed: u64) {
+    let mut read_back = 0;
+    let shapes = shapes();
+    each_case(seed, STREAMS, |case, random| {
+        let (h, d, shape) = shapes[case % shapes.len()];
+        let rounds: Vec<R> = (0..random.below(8)).map(|_| R::random(shape, random)).collect();
+        let stream = write_all(h, d, &rounds, 12_000).expect("the room is enough");
+        assert_eq!(read_all(&stream), Ok((h, d, rounds.clone())));
+        assert_eq!(write_all(h, d, &rounds, stream.len()).as_ref(), Ok(&stream));
+        assert_eq!(write_all(h, d, &rounds, stream.len() - 1), Err(Stop::Refused(11)));
+        read_back += 1;
+    });
+    assert_eq!(read_back, STREAMS);
+}
+
+fn an_accepted_stream_is_written_alike<R: Record>(seed: u64) {
+    let (mut accepted, mut refused) = (0, 0);
+    let shapes = shapes();
+    each_case(seed, STREAMS, |case, random| {
+        let (h, d, shape) = shapes[case % shapes.len()];
+        // Small shapes and few bytes, which are often accepted; else a damaged stream.
+        let src = if case % 2 == 0 {
+            let (h, d) = (1 + random.below(2) as u32, 2 + random.below(2) as u32);
+            let len = random.below(9);
+            let small = (0..len).map(|_| random.pick(&[0, 0, 0, 1, 1, 2, 0x80]));
+            [number_bytes(h), number_bytes(d), small.collect()].concat()
+        } else {
+            let rounds: Vec<R> = (0..random.below(5)).map(|_| R::random(shape, random)).collect();
+            random.damaged(&write_all(h, d, &rounds, 12_000).expect("the room is enough"))
+        };
+        let Ok((h, d, records)) = read_all::<R>(&src) else {
+            refused += 1;
+            return;
+        };
+        accepted += 1;
+        assert_eq!(write_all(h, d, &records, src.len()), Ok(src));
+    });
+    assert_eq!(accepted + refused, STREAMS);
+    assert!(accepted >= 1_000 && refused >= 1_000, "{accepted} accepted, {refused} refused");
+}
+
+#[test]
+fn input_rounds_read_back() {
+    a_list_of_rounds_reads_back::<Input>(0x696e_7075);
+}
+
+#[test]
+fn result_rounds_read_back() {
+    a_list_of_rounds_reads_back::<Output>(0x6f75_7470);
+}
+
+#[test]
+fn accepted_input_is_written_alike() {
+    an_accepted_stream_is_written_alike::<Input>(0x6163_6365);
+}
+
+#[test]
+fn accepted_results_are_written_alike() {
+    an_accepted_stream_is_written_alike::<Output>(0x7074_6564);
+}
