@@ -7,13 +7,12 @@ use mathlib.Core.List.{List, [], _∷_, _++_}
 use borrow.Author.Tests.{lt-ltb, le-ltb, le-leb, lt-leb, eq-eqb, ne-eqb, eqb-true, ltb-true, ltb-false, leb-true, leb-false}
 use lib.Dec.{ltb, leb, eqb}
 use lib.ListN.{length, set, replicate, length-append, length-set, length-replicate}
-use Rattle.refusal.specs.Writing.{left}
 use Rattle.refusal.specs.Answer.{Answer, done, ended, refused, refusedAt, andThen, isDone, passed}
 use Rattle.refusal.specs.Laws.{not-done}
 use Rattle.refusal.specs.Done.{goes-on, passes, fails}
 use Rattle.number.specs.Number.{written, numberAt}
 use Rattle.number.specs.Laws.{length-written}
-use Rattle.list.specs.Sheet.{ones, skips, listed, entriesAt, listAt, areBits, into, kept}
+use Rattle.list.specs.Sheet.{ones, skips, listed, entriesAt, listAt, areBits}
 
 -- WRITTEN
 
@@ -170,16 +169,3 @@ entries-alike s (suc n) from at xs ys e = go (numberAt s at) refl (λ k next. en
     go ended d r = stops (ap (λ (a : Answer ℕ). isDone a) d)
     go (refused m) d r = stops (ap (λ (a : Answer ℕ). isDone a) d)
     go (refusedAt m o) d r = stops (ap (λ (a : Answer ℕ). isDone a) d)
-
--- a buffer after a reading, by whether it was done
-pub into-not : (a : Answer (List ℕ)) (old : List ℕ) → isDone a ≡ false → left (passed a) old ≡ into a old
-into-not (done entries next) old e = let z : _≡_ {A = ℕ} 0 1 = cc in absurd (omega arith)
-into-not ended old e = refl
-into-not (refused n) old e = refl
-into-not (refusedAt n at) old e = refl
-
-pub into-done : (a : Answer (List ℕ)) (old : List ℕ) → isDone a ≡ true → left (passed a) (kept a) ≡ into a old
-into-done (done entries next) old e = refl
-into-done ended old e = let z : _≡_ {A = ℕ} 0 1 = cc in absurd (omega arith)
-into-done (refused n) old e = let z : _≡_ {A = ℕ} 0 1 = cc in absurd (omega arith)
-into-done (refusedAt n at) old e = let z : _≡_ {A = ℕ} 0 1 = cc in absurd (omega arith)

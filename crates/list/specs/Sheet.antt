@@ -4,7 +4,7 @@ use mathlib.Core.Bool.{Bool, true, false, _&&_}
 use mathlib.Core.List.{List, [], _∷_, _++_}
 use lib.Dec.{ltb, leb, eqb}
 use lib.ListN.{length, set, replicate}
-use Rattle.refusal.specs.Answer.{Answer, done, ended, refused, refusedAt, turned, andThen}
+use Rattle.refusal.specs.Answer.{Answer, done, refusedAt, turned, andThen, passed, valueOr, itself}
 use Rattle.refusal.specs.Writing.{Left, left, writing}
 use Rattle.number.specs.Number.{written, numberAt, inSlice}
 use Rattle.list.specs.declared.Listed.{Listed}
@@ -56,20 +56,10 @@ toldRead r buffer = left (told r) buffer
 
 -- a buffer takes what is done, and stays as it was where nothing is
 abbrev pub into : Answer (List ℕ) → List ℕ → Left
-into (done entries next) old = left (done tt next) entries
-into ended old = left ended old
-into (refused n) old = left (refused n) old
-into (refusedAt n at) old = left (refusedAt n at) old
+into a old = left (passed a) (valueOr a itself old)
 
 abbrev pub readList : List ℕ → ℕ → List ℕ → Left
 readList s at old = into (listAt s (length old) at) old
-
--- the entries of a list that was read
-abbrev pub kept : Answer (List ℕ) → List ℕ
-kept (done entries next) = entries
-kept ended = []
-kept (refused n) = []
-kept (refusedAt n at) = []
 
 -- each byte is 0 or 1
 unfoldable pub areBits : List ℕ → Bool

@@ -2,10 +2,10 @@
 ghost use mathlib.Core.Path.{_≡_};
 ghost use mathlib.Core.Bool.{true};
 ghost use lib.ListN.{length, replicate};
-ghost use Rattle.refusal.specs.Answer.{isDone, passed};
+ghost use Rattle.refusal.specs.Answer.{isDone, passed, valueOr, itself};
 ghost use Rattle.refusal.specs.Writing.{front, putTo};
 ghost use Rattle.number.specs.Number.{told as toldNumber, toldWrote};
-ghost use Rattle.list.specs.Sheet.{told, toldRead, listAt, kept, readList, ones as onesOf, listed as listedOf, areBits, writeList};
+ghost use Rattle.list.specs.Sheet.{told, toldRead, listAt, readList, ones as onesOf, listed as listedOf, areBits, writeList};
 use number::Read;
 use number::Wrote;
 use refusal::Refusal;
@@ -69,7 +69,7 @@ fn clear(out: &mut [u8])
 // Stores a list that can be read.
 fn store_list(src: &[u8], at: usize, out: &mut [u8])
     requires { ⌜ isDone (listAt (now src) (length (now out)) at) ≡ true ⌝ }
-    ensures { λ _. ⌜ now (out .exit) ≡ kept (listAt (now (src .entry)) (length (now (out .entry))) at) ⌝ }
+    ensures { λ _. ⌜ now (out .exit) ≡ valueOr (listAt (now (src .entry)) (length (now (out .entry))) at) itself (now (out .entry)) ⌝ }
 {
     clear(out);
     let count = number::read_number(src, at);

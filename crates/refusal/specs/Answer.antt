@@ -64,12 +64,15 @@ abbrev pub unless : {A : Type 0} → List (Bool × ℕ) → Answer A → Answer 
 unless [] a = a
 unless (t ∷ ts) a = elim (t .0) [ true ↦ unless ts a | false ↦ refused (t .1) ]
 
--- a buffer after a call: filled where the call is done, as it was where not
-abbrev pub leaves : {A : Type 0} → Answer A → List ℕ → List ℕ → List ℕ
-leaves (done a next) filled old = filled
-leaves ended filled old = old
-leaves (refused n) filled old = old
-leaves (refusedAt n at) filled old = old
+-- what a value gives where the call is done, and the other where not
+abbrev pub valueOr : {A B : Type 0} → Answer A → (A → B) → B → B
+valueOr (done a next) of other = of a
+valueOr ended of other = other
+valueOr (refused n) of other = other
+valueOr (refusedAt n at) of other = other
+
+abbrev pub itself : {A : Type 0} → A → A
+itself a = a
 
 abbrev pub isDone : {A : Type 0} → Answer A → Bool
 isDone (done a next) = true

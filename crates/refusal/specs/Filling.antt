@@ -8,8 +8,8 @@ use mathlib.Core.List.{List, [], _∷_, _++_, append-assoc, append-nil}
 use lib.ListN.{length, take, drop, getD, set, length-append, length-drop, take-append-drop}
 use borrow.Author.Tests.{le-leb, lt-leb}
 use mathlib.Core.Bool.{Bool, true, false}
-use Rattle.refusal.specs.Answer.{Answer, done, refused, turned, unless, leaves}
-use Rattle.refusal.specs.Laws.{turned-leaves}
+use Rattle.refusal.specs.Answer.{Answer, done, refused, turned, unless, valueOr}
+use Rattle.refusal.specs.Laws.{turned-not, value-not}
 use Rattle.refusal.specs.declared.Refusal.{Refusal}
 use Rattle.refusal.specs.Tests.{Passes, Turned, unless-append}
 use Rattle.refusal.specs.Writing.{Left, left, writing, room, laid, front, putTo}
@@ -70,7 +70,7 @@ module _ (tests : List (Bool × ℕ)) (old : List ℕ) (at : ℕ) (bytes : List 
   writing-turned f h =
       let e : unless (tests ++ (room old at bytes ∷ [])) (done tt (at + length bytes)) ≡ turned f =
       unless-append tests (room old at bytes ∷ []) (done tt (at + length bytes)) ∙ h (Unit {0}) (unless (room old at bytes ∷ []) (done tt (at + length bytes))) in
-      sym (ap (λ (a : Answer (Unit {0})). left a (leaves a (laid old at bytes) old)) e ∙ ap (λ (l : List ℕ). left (turned f) l) (turned-leaves (Unit {0}) f (laid old at bytes) old))
+      sym (ap (λ (a : Answer (Unit {0})). left a (valueOr a (λ u. laid old at bytes) old)) e ∙ ap (λ (l : List ℕ). left (turned f) l) (value-not (turned f) (λ u. laid old at bytes) old (turned-not (Unit {0}) f)))
 
   module _ (h : Passes tests) where
     by-room : _≡_ {A = Answer (Unit {0})} (unless (tests ++ (room old at bytes ∷ [])) (done tt (at + length bytes))) (unless (room old at bytes ∷ []) (done tt (at + length bytes)))
@@ -79,9 +79,9 @@ module _ (tests : List (Bool × ℕ)) (old : List ℕ) (at : ℕ) (bytes : List 
     pub writing-full : length old - at < length bytes → left (refused 11) old ≡ writing tests old at bytes
     writing-full k =
         let e : unless (tests ++ (room old at bytes ∷ [])) (done tt (at + length bytes)) ≡ refused 11 = by-room ∙ rw (lt-leb (length bytes) (length old - at) k) refl in
-        sym (ap (λ (a : Answer (Unit {0})). left a (leaves a (laid old at bytes) old)) e)
+        sym (ap (λ (a : Answer (Unit {0})). left a (valueOr a (λ u. laid old at bytes) old)) e)
 
     pub writing-done : length bytes ≤ length old - at → left (done tt (at + length bytes)) (laid old at bytes) ≡ writing tests old at bytes
     writing-done k =
         let e : unless (tests ++ (room old at bytes ∷ [])) (done tt (at + length bytes)) ≡ done tt (at + length bytes) = by-room ∙ rw (le-leb (length bytes) (length old - at) k) refl in
-        sym (ap (λ (a : Answer (Unit {0})). left a (leaves a (laid old at bytes) old)) e)
+        sym (ap (λ (a : Answer (Unit {0})). left a (valueOr a (λ u. laid old at bytes) old)) e)

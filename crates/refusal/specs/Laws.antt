@@ -2,9 +2,8 @@
 use Prim.Native.Nat.{ℕ}
 use mathlib.Core.Path.{_≡_, refl, sym, _∙_, ap}
 use mathlib.Core.Bool.{Bool, true, false}
-use mathlib.Core.List.{List}
 use native.Mathlib.Omega.{arith}
-use Rattle.refusal.specs.Answer.{Answer, done, ended, refused, refusedAt, Code, plain, placed, codeOf, byCode, turned, andThen, isDone, passed, leaves}
+use Rattle.refusal.specs.Answer.{Answer, done, ended, refused, refusedAt, Code, plain, placed, codeOf, byCode, turned, andThen, isDone, passed, valueOr}
 use Rattle.refusal.specs.declared.Refusal.{Refusal}
 
 -- what holds of both kinds of number holds of every refusal
@@ -41,9 +40,12 @@ done-passed ended = refl
 done-passed (refused n) = refl
 done-passed (refusedAt n at) = refl
 
--- a buffer is left as it was
-pub turned-leaves : (A : Type 0) (f : Refusal) (new old : List ℕ) → leaves (turned {A = A} f) new old ≡ old
-turned-leaves A f new old = each (λ (k : Code). leaves (byCode {A = A} k) new old ≡ old) (λ n. refl) (λ n at. refl) f
+-- what is not done sets nothing
+pub value-not : {A B : Type 0} (a : Answer A) (of : A → B) (other : B) → isDone a ≡ false → valueOr a of other ≡ other
+value-not (done a next) of other e = absurd (undone e)
+value-not ended of other e = refl
+value-not (refused n) of other e = refl
+value-not (refusedAt n at) of other e = refl
 
 -- WHAT CAME BEFORE, from an answer without its value
 

@@ -4,7 +4,7 @@ use mathlib.Core.Bool.{Bool, true, false}
 use mathlib.Core.List.{List, [], _∷_, _++_}
 use lib.Dec.{leb}
 use lib.ListN.{length, take, drop}
-use Rattle.refusal.specs.Answer.{Answer, done, unless, leaves}
+use Rattle.refusal.specs.Answer.{Answer, done, unless, valueOr}
 
 -- what a call with one buffer leaves
 pub record Left : Type 0 where
@@ -26,7 +26,7 @@ room old at bytes = (leb (length bytes) (length old - at), 11)
 abbrev pub writing : List (Bool × ℕ) → List ℕ → ℕ → List ℕ → Left
 writing tests old at bytes =
     let a : Answer (Unit {0}) = unless (tests ++ (room old at bytes ∷ [])) (done tt (at + length bytes)) in
-    left a (leaves a (laid old at bytes) old)
+    left a (valueOr a (λ u. laid old at bytes) old)
 
 -- how many bytes were put at a buffer's front, and the buffer
 pub record Put : Type 0 where

@@ -4,13 +4,12 @@ use mathlib.Core.Bool.{Bool}
 use mathlib.Core.List.{List, [], _∷_, _++_}
 use lib.Dec.{leb, eqb}
 use lib.ListN.{length}
-use Rattle.refusal.specs.Answer.{Answer, done, ended, refused, refusedAt, turned, unless, andThen}
-use Rattle.refusal.specs.Writing.{left, Left, writing}
-use Rattle.number.specs.Number.{inSlice}
+use Rattle.refusal.specs.Answer.{Answer, done, ended, turned, unless, andThen, valueOr}
+use Rattle.refusal.specs.Writing.{Left, writing}
 use Rattle.list.specs.Sheet.{listed, areBits, into}
 use Rattle.shape.specs.Sizes.{shapeTests, detectorsOf, layerEdgesOf}
 use Rattle.shape.specs.declared.Shape.{Shape}
-use Rattle.stream.specs.Records.{header, roundAt, Result, result, resultAt}
+use Rattle.stream.specs.Records.{header, roundAt, Result, edgesOf, escapesOf, result, resultAt}
 use Rattle.stream.specs.declared.HeaderRead.{HeaderRead}
 use Rattle.stream.specs.declared.HeaderRead.the-variants as headerRead
 use Rattle.stream.specs.declared.RoundRead.{RoundRead}
@@ -78,12 +77,13 @@ pub record Committed : Type 0 where
 abbrev pub committed : Answer ℕ → List ℕ → List ℕ → Committed
 committed a edges escapes = record { answer = a; edges = edges; escapes = escapes }
 
+-- the steps of a round of the result
+abbrev pub stepsOf : Answer Result → Answer ℕ
+stepsOf a = andThen a (λ r next. done (r .steps) next)
+
 -- the buffers take what is done, and stay as they were where nothing is
 abbrev pub intoBoth : Answer Result → List ℕ → List ℕ → Committed
-intoBoth (done r next) edges escapes = committed (done (r .steps) next) (r .edges) (r .escapes)
-intoBoth ended edges escapes = committed ended edges escapes
-intoBoth (refused n) edges escapes = committed (refused n) edges escapes
-intoBoth (refusedAt n at) edges escapes = committed (refusedAt n at) edges escapes
+intoBoth a edges escapes = committed (stepsOf a) (valueOr a edgesOf edges) (valueOr a escapesOf escapes)
 
 abbrev pub readResult : Shape → List ℕ → ℕ → List ℕ → List ℕ → Committed
 readResult sh s at edges escapes =
@@ -102,9 +102,5 @@ writeResult sh r old at =
     at
     (result r)
 
-abbrev pub resultOf : List ℕ → List ℕ → ℕ → Result
-resultOf edges escapes steps = record { edges = edges; escapes = escapes; steps = steps }
-
--- the steps of a round of the result
-abbrev pub stepsOf : Answer Result → Answer ℕ
-stepsOf a = andThen a (λ r next. done (r .steps) next)
+abbrev pub asResult : List ℕ → List ℕ → ℕ → Result
+asResult edges escapes steps = record { edges = edges; escapes = escapes; steps = steps }

@@ -8,18 +8,18 @@ use lib.ListN.{length, length-append}
 use native.Mathlib.Omega.{arith}
 use borrow.Author.Tests.{lt-ltb, le-ltb}
 use Rattle.refusal.specs.Writing.{left}
-use Rattle.refusal.specs.Answer.{Answer, done, ended, refused, refusedAt, turned, andThen, passed, isDone}
-use Rattle.refusal.specs.Laws.{turned-as, turned-on, turned-not, turned-passed, done-is, undone}
+use Rattle.refusal.specs.Answer.{Answer, done, ended, refused, refusedAt, turned, andThen, passed, isDone, valueOr, itself}
+use Rattle.refusal.specs.Laws.{turned-as, turned-on, turned-not, turned-passed, done-is, value-not}
 use Rattle.refusal.specs.Tests.{Turned}
 use Rattle.refusal.specs.Done.{goes-on, went, passes, fails}
 use Rattle.refusal.specs.declared.Refusal.{Refusal}
 use Rattle.number.specs.Number.{written, numberAt}
 use Rattle.number.specs.Laws.{length-written}
 use Rattle.list.specs.Sheet.{listed, listAt, into}
-use Rattle.list.specs.Laws.{length-listed, into-not}
+use Rattle.list.specs.Laws.{length-listed}
 use Rattle.shape.specs.Sizes.{heightOk, distanceOk, detectorsOf, layerEdgesOf}
 use Rattle.shape.specs.declared.Shape.{Shape}
-use Rattle.stream.specs.Records.{header, headerFrom, headerAt, unlessEnded, Result, result, resultFrom, resultAt, roundAt, keptEdges, keptEscapes}
+use Rattle.stream.specs.Records.{header, headerFrom, headerAt, unlessEnded, Result, result, resultFrom, resultAt, roundAt, edgesOf, escapesOf}
 use Rattle.stream.specs.Calls.{placeTests, defectsTest, edgesTest, escapesTest, readRound, committed, intoBoth, readResult, stepsOf}
 
 -- THE HEADER
@@ -160,19 +160,14 @@ result-parts s edges detectors at h =
 -- BUFFERS AFTER A READING
 
 pub into-turned : (f : Refusal) (old : List ℕ) → left (turned f) old ≡ into (turned f) old
-into-turned f old = ap (λ (a : Answer (Unit {0})). left a old) (sym (turned-passed (List ℕ) f)) ∙ into-not (turned f) old (turned-not (List ℕ) f)
+into-turned f old =
+    ap (λ (a : Answer (Unit {0})). left a old) (sym (turned-passed (List ℕ) f))
+    ∙ ap (λ (l : List ℕ). left (passed (turned {A = List ℕ} f)) l) (sym (value-not (turned f) itself old (turned-not (List ℕ) f)))
 
 pub both-not : (a : Answer Result) (edges escapes : List ℕ) → isDone a ≡ false → committed (stepsOf a) edges escapes ≡ intoBoth a edges escapes
-both-not (done r next) edges escapes e = absurd (undone e)
-both-not ended edges escapes e = refl
-both-not (refused n) edges escapes e = refl
-both-not (refusedAt n at) edges escapes e = refl
-
-pub both-done : (a : Answer Result) (edges escapes : List ℕ) → isDone a ≡ true → committed (stepsOf a) (keptEdges a) (keptEscapes a) ≡ intoBoth a edges escapes
-both-done (done r next) edges escapes e = refl
-both-done ended edges escapes e = absurd (undone (sym e))
-both-done (refused n) edges escapes e = absurd (undone (sym e))
-both-done (refusedAt n at) edges escapes e = absurd (undone (sym e))
+both-not a edges escapes e =
+    ap (λ (l : List ℕ). committed (stepsOf a) l escapes) (sym (value-not a edgesOf edges e))
+    ∙ ap (λ (l : List ℕ). committed (stepsOf a) (valueOr a edgesOf edges) l) (sym (value-not a escapesOf escapes e))
 
 pub both-turned : (f : Refusal) (edges escapes : List ℕ) → committed (turned f) edges escapes ≡ intoBoth (turned f) edges escapes
 both-turned f edges escapes =

@@ -4,7 +4,7 @@ use mathlib.Core.Bool.{Bool, true, false}
 use mathlib.Core.List.{List, [], _∷_, _++_}
 use lib.Dec.{ltb}
 use lib.ListN.{length}
-use Rattle.refusal.specs.Answer.{Answer, done, ended, refused, refusedAt, andThen}
+use Rattle.refusal.specs.Answer.{Answer, done, ended, refused, andThen}
 use Rattle.number.specs.Number.{written, numberAt}
 use Rattle.list.specs.Sheet.{listed, listAt}
 use Rattle.shape.specs.Sizes.{heightOk, distanceOk}
@@ -44,6 +44,12 @@ pub record Result : Type 0 where
   pub escapes : List ℕ
   pub steps : ℕ
 
+abbrev pub edgesOf : Result → List ℕ
+edgesOf r = r .edges
+
+abbrev pub escapesOf : Result → List ℕ
+escapesOf r = r .escapes
+
 unfoldable pub result : Result → List ℕ
 result r = listed (r .edges) ++ (listed (r .escapes) ++ written (r .steps))
 
@@ -56,16 +62,3 @@ resultFrom s edges detectors at =
 
 abbrev pub resultAt : List ℕ → ℕ → ℕ → ℕ → Answer Result
 resultAt s edges detectors at = unlessEnded s at (resultFrom s edges detectors at)
-
--- the lists of a round that was read
-abbrev pub keptEdges : Answer Result → List ℕ
-keptEdges (done r next) = r .edges
-keptEdges ended = []
-keptEdges (refused n) = []
-keptEdges (refusedAt n at) = []
-
-abbrev pub keptEscapes : Answer Result → List ℕ
-keptEscapes (done r next) = r .escapes
-keptEscapes ended = []
-keptEscapes (refused n) = []
-keptEscapes (refusedAt n at) = []

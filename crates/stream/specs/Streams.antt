@@ -9,9 +9,9 @@ use Rattle.shape.specs.declared.Shape.{Shape}
 use Rattle.stream.specs.Records.{header, headerAt, roundAt, Result, result, resultAt}
 
 -- the records of a kind one after another
-unfoldable pub written : {A : Type 0} → (A → List ℕ) → List A → List ℕ
-written write [] = []
-written write (r ∷ rs) = write r ++ written write rs
+unfoldable pub allBytes : {A : Type 0} → (A → List ℕ) → List A → List ℕ
+allBytes write [] = []
+allBytes write (r ∷ rs) = write r ++ allBytes write rs
 
 -- records from an offset on, until no bytes are left; a record has a byte at least, so n is no bound where s has n bytes
 unfoldable pub recordsAt : {A : Type 0} → (ℕ → Answer A) → ℕ → ℕ → Answer (List A)
@@ -37,8 +37,8 @@ streamOf read s =
     andThen (recordsAt (read s sh) (length s) next) (λ rs end. done (record { shape = sh; records = rs }) end))
 
 unfoldable pub bytesOf : {A : Type 0} → (A → List ℕ) → Stream A → List ℕ
-unfolding written
-bytesOf write t = header (t .shape) ++ written write (t .records)
+unfolding allBytes
+bytesOf write t = header (t .shape) ++ allBytes write (t .records)
 
 -- THE INPUT STREAM
 

@@ -11,7 +11,7 @@ use Rattle.refusal.specs.Bytes.{Bytes, part-inside, at-end}
 use Rattle.refusal.specs.Filling.{drop-part}
 use Rattle.shape.specs.declared.Shape.{Shape}
 use Rattle.stream.specs.Records.{header, headerAt}
-use Rattle.stream.specs.Streams.{Stream, written, recordsAt, streamOf, bytesOf}
+use Rattle.stream.specs.Streams.{Stream, allBytes, recordsAt, streamOf, bytesOf}
 use Rattle.stream.specs.Fits.{Each, InRange, Fits}
 use Rattle.stream.specs.Laws.{length-header}
 use Rattle.stream.specs.Header.{header-reads, HeaderWrites, header-writes, header-no-end}
@@ -67,21 +67,21 @@ module _ {A : Type 0} where
 
 -- what records that are read to the end tell of the bytes
 record RecordsWrite {A : Type 0} (write : A → List ℕ) (fits : Shape → A → Type 0) (s : List ℕ) (sh : Shape) (at : ℕ) (rs : List A) (end : ℕ) : Type 0 where
-  bytes : drop at s ≡ written write rs
+  bytes : drop at s ≡ allBytes write rs
   right : Each (fits sh) rs
   whole : end ≡ length s
 
 module _ {A : Type 0} (read : List ℕ → Shape → ℕ → Answer A) (write : A → List ℕ) (fits : Shape → A → Type 0) (kind : Kind read write fits) where
   -- WRITTEN, THEN READ
 
-  records-some : (rs : List A) → length rs ≤ length (written write rs)
-  unfolding written
+  records-some : (rs : List A) → length rs ≤ length (allBytes write rs)
+  unfolding allBytes
   records-some [] = omega arith
   records-some (r ∷ rs) = let h = kind .trips .some r in let l = records-some rs in simp length-append (omega arith)
 
   records-read : (s : List ℕ) (sh : Shape) → InRange sh → (n : ℕ) (rs : List A) (at : ℕ) → length rs < n → at ≤ length s → Each (fits sh) rs
-      → drop at s ≡ written write rs → recordsAt (read s sh) n at ≡ done rs (length s)
-  unfolding written
+      → drop at s ≡ allBytes write rs → recordsAt (read s sh) n at ≡ done rs (length s)
+  unfolding allBytes
   records-read s sh range zero rs at h l f e = absurd (omega arith)
   records-read s sh range (suc n) [] at h l f e =
       let end : at ≡ length s = at-end s at l e in
@@ -90,16 +90,16 @@ module _ {A : Type 0} (read : List ℕ → Shape → ℕ → Answer A) (write : 
       ∙ ap (λ (i : ℕ). done [] i) end
   records-read s sh range (suc n) (r ∷ rs) at h l f e =
       records-steps (read s sh) n at
-      ∙ ap (onRecord (read s sh) n at) (kind .trips .reads s sh at r (written write rs) range (f .0) e)
+      ∙ ap (onRecord (read s sh) n at) (kind .trips .reads s sh at r (allBytes write rs) range (f .0) e)
       ∙ goes-on (onMore r)
-      (records-read s sh range n rs (at + length (write r)) (omega arith) (part-inside s at (write r) (written write rs) (kind .trips .some r) e) (f .1)
-      (drop-part s at (write r) (written write rs) e))
+      (records-read s sh range n rs (at + length (write r)) (omega arith) (part-inside s at (write r) (allBytes write rs) (kind .trips .some r) e) (f .1)
+      (drop-part s at (write r) (allBytes write rs) e))
 
   pub stream-reads : (t : Stream A) → Fits fits t → streamOf read (bytesOf write t) ≡ done t (length (bytesOf write t))
   unfolding bytesOf
   stream-reads t f =
       let sh : Shape = t .shape in
-      let bytes : List ℕ = written write (t .records) in
+      let bytes : List ℕ = allBytes write (t .records) in
       let s : List ℕ = header sh ++ bytes in
       let fuel : length (t .records) < length s = let h = length-header sh in let l = records-some (t .records) in simp length-append (omega arith) in
       stream-steps read s
@@ -140,7 +140,7 @@ module _ {A : Type 0} (read : List ℕ → Shape → ℕ → Answer A) (write : 
 
   records-write : (s : List ℕ) (sh : Shape) → Bytes s → (n at : ℕ) (rs : List A) (end : ℕ) → at ≤ length s → recordsAt (read s sh) n at ≡ done rs end
       → RecordsWrite write fits s sh at rs end
-  unfolding recordsAt written
+  unfolding recordsAt allBytes
   records-write s sh b zero at rs end l e = absurd (is-done e)
   records-write s sh b (suc n) at rs end l e = go (read s sh at) refl (records-write s sh b n)
     where

@@ -3,12 +3,12 @@
 ghost use mathlib.Core.Path.{_≡_};
 ghost use mathlib.Core.Bool.{true};
 ghost use lib.ListN.{length};
-ghost use Rattle.refusal.specs.Answer.{unless, done, isDone};
+ghost use Rattle.refusal.specs.Answer.{unless, done, isDone, valueOr};
 ghost use Rattle.refusal.specs.Writing.{left, front, putTo};
 ghost use Rattle.number.specs.Number.{toldWrote};
 ghost use Rattle.shape.specs.Sizes.{verdict};
-ghost use Rattle.stream.specs.Records.{header, headerAt, headerFrom, Result, result, resultFrom, keptEdges, keptEscapes};
-ghost use Rattle.stream.specs.Calls.{toldHeader, toldRound, toldResult, placeTests, writeHeader, readRound, writeRound, committed, readResult, writeResult, stepsOf, resultOf};
+ghost use Rattle.stream.specs.Records.{header, headerAt, headerFrom, result, resultFrom, edgesOf, escapesOf};
+ghost use Rattle.stream.specs.Calls.{toldHeader, toldRound, toldResult, placeTests, writeHeader, readRound, writeRound, committed, readResult, writeResult, stepsOf, asResult};
 use list::Listed;
 use number::Read;
 use number::Wrote;
@@ -172,8 +172,8 @@ fn scan_result(src: &[u8], at: usize, edges: usize, detectors: usize) -> ResultR
 // Stores the lists of a round of the result that can be read.
 fn store_result(src: &[u8], at: usize, edges: &mut [u8], escapes: &mut [u8])
     requires { ⌜ isDone (resultFrom (now src) (length (now edges)) (length (now escapes)) at) ≡ true ⌝ }
-    ensures { λ _. ⌜ now (edges .exit) ≡ keptEdges (resultFrom (now (src .entry)) (length (now (edges .entry))) (length (now (escapes .entry))) at) ⌝ }
-    ensures { λ _. ⌜ now (escapes .exit) ≡ keptEscapes (resultFrom (now (src .entry)) (length (now (edges .entry))) (length (now (escapes .entry))) at) ⌝ }
+    ensures { λ _. ⌜ now (edges .exit) ≡ valueOr (resultFrom (now (src .entry)) (length (now (edges .entry))) (length (now (escapes .entry))) at) edgesOf (now (edges .entry)) ⌝ }
+    ensures { λ _. ⌜ now (escapes .exit) ≡ valueOr (resultFrom (now (src .entry)) (length (now (edges .entry))) (length (now (escapes .entry))) at) escapesOf (now (escapes .entry)) ⌝ }
 {
     let first = list::read_list(src, at, edges);
     let Listed::To(next) = first else {
@@ -217,7 +217,7 @@ pub fn read_result(
 
 // Writes a round of the result at the front of a buffer and answers its bytes; 0, and nothing written, where it has no room.
 fn put_result(edges: &[u8], escapes: &[u8], steps: u32, out: &mut [u8]) -> usize
-    ensures { λ r. ⌜ putTo r (now (out .exit)) ≡ front (now (out .entry)) (result (resultOf (now (edges .entry)) (now (escapes .entry)) steps)) ⌝ }
+    ensures { λ r. ⌜ putTo r (now (out .exit)) ≡ front (now (out .entry)) (result (asResult (now (edges .entry)) (now (escapes .entry)) steps)) ⌝ }
 {
     let room = out.len();
     let first = list::list_len(edges);
@@ -245,7 +245,7 @@ pub fn write_result(
     out: &mut [u8],
     at: usize,
 ) -> Wrote
-    ensures { λ r. ⌜ toldWrote r (now (out .exit)) ≡ writeResult shape (resultOf (now (edges .entry)) (now (escapes .entry)) steps) (now (out .entry)) at ⌝ }
+    ensures { λ r. ⌜ toldWrote r (now (out .exit)) ≡ writeResult shape (asResult (now (edges .entry)) (now (escapes .entry)) steps) (now (out .entry)) at ⌝ }
 {
     let tested = test_place(shape, out.len(), at);
     if let Tested::Refused(f) = tested {

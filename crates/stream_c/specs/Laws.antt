@@ -3,8 +3,8 @@ use Prim.Native.Nat.{ℕ}
 use mathlib.Core.Path.{_≡_, refl, sym, _∙_, ap}
 use mathlib.Core.List.{List, [], _∷_, _++_}
 use lib.Dec.{leb}
-use Rattle.refusal.specs.Answer.{Answer, done, ended, Code, byCode, turned}
-use Rattle.refusal.specs.Laws.{each}
+use Rattle.refusal.specs.Answer.{Answer, done, ended, Code, byCode, turned, valueOr}
+use Rattle.refusal.specs.Laws.{each, turned-not, value-not}
 use Rattle.refusal.specs.Tests.{Turned, tests-turned, tests-done, turned-first}
 use Rattle.refusal.specs.declared.Refusal.{Refusal}
 use Rattle.shape.specs.Sizes.{shapeTests, shapeOf, told}
@@ -12,7 +12,7 @@ use Rattle.shape.specs.declared.Shape.{Shape}
 use Rattle.shape.specs.declared.Shaped.{Shaped}
 use Rattle.shape.specs.declared.Shaped.the-variants as shaped
 use Rattle.stream.specs.Calls.{placeTests}
-use Rattle.stream_c.specs.Seen.{Seen, seen, shown, valueOr, shapeBy}
+use Rattle.stream_c.specs.Seen.{Seen, seen, shown, shapeBy}
 
 module _ {A : Type 0} (a : Answer A) (place : ℕ) where
   pub seen-done : (v : A) (next : ℕ) → a ≡ done v next → seen 0 next ≡ shown a place
@@ -34,9 +34,7 @@ module _ {A : Type 0} (a : Answer A) (of : A → ℕ) (other : ℕ) where
   value-ended e = sym (ap (λ (x : Answer A). valueOr x of other) e)
 
   pub value-turned : (f : Refusal) → a ≡ turned f → other ≡ valueOr a of other
-  value-turned f e =
-      each (λ (k : Code). other ≡ valueOr (byCode {A = A} k) of other) (λ n. refl) (λ n at. refl) f
-      ∙ sym (ap (λ (x : Answer A). valueOr x of other) e)
+  value-turned f e = sym (ap (λ (x : Answer A). valueOr x of other) e ∙ value-not (turned f) of other (turned-not A f))
 
 module _ (h d : ℕ) (r : Shaped) (e : told r ≡ shapeOf h d) where
   pub shape-turned : (f : Refusal) → r ≡ shaped.Refused f → (len at : ℕ) → Turned (placeTests (shapeBy h d) len at) f

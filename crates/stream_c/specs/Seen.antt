@@ -1,6 +1,6 @@
 -- What a caller in C sees of an answer: one number for how the call ended, a place, and values where it is done. Assumes nothing.
 use Prim.Native.Nat.{ℕ}
-use Rattle.refusal.specs.Answer.{Answer, done, ended, refused, refusedAt, status, placeOr}
+use Rattle.refusal.specs.Answer.{Answer, status, placeOr}
 use Rattle.shape.specs.declared.Shape.{Shape}
 
 -- the status, and the place that the caller lent
@@ -15,19 +15,9 @@ seen n place = record { status = n; place = place }
 abbrev pub shown : {A : Type 0} → Answer A → ℕ → Seen
 shown a place = seen (status a) (placeOr a place)
 
--- a value that the caller lent is set where the call is done
-abbrev pub valueOr : {A : Type 0} → Answer A → (A → ℕ) → ℕ → ℕ
-valueOr (done v next) of other = of v
-valueOr ended of other = other
-valueOr (refused n) of other = other
-valueOr (refusedAt n at) of other = other
-
 -- the shape that a height and a distance name, in range or not
 abbrev pub shapeBy : ℕ → ℕ → Shape
 shapeBy height distance = record { height = height; distance = distance }
-
-abbrev pub itself : ℕ → ℕ
-itself n = n
 
 abbrev pub heightOf : Shape → ℕ
 heightOf sh = sh .height

@@ -1,12 +1,12 @@
 // The streams for programs in C: numbers, byte slices and lent numbers only. Each call answers 0 where it is done, 255 where no bytes
 // are left, and else the refusal's number; what that leaves alone stays as it was.
 ghost use mathlib.Core.Path.{_≡_};
-ghost use Rattle.refusal.specs.Answer.{turned};
+ghost use Rattle.refusal.specs.Answer.{turned, valueOr, itself};
 ghost use Rattle.number.specs.Number.{numberAt, toldTo, writeNumber};
-ghost use Rattle.list.specs.Sheet.{told as toldListed, readList, writeList};
+ghost use Rattle.list.specs.Sheet.{readList, writeList};
 ghost use Rattle.stream.specs.Records.{headerAt};
-ghost use Rattle.stream.specs.Calls.{toldRound, writeHeader, readRound, writeRound, readResult, writeResult, resultOf};
-ghost use Rattle.stream_c.specs.Seen.{seen, shown, valueOr, shapeBy, itself, heightOf, distanceOf};
+ghost use Rattle.stream.specs.Calls.{writeHeader, readRound, writeRound, readResult, writeResult, asResult};
+ghost use Rattle.stream_c.specs.Seen.{seen, shown, shapeBy, heightOf, distanceOf};
 use list::Listed;
 use number::Read;
 use number::Wrote;
@@ -235,8 +235,8 @@ pub extern "C" fn baizeridge_write_result(
     at: usize,
     place: &mut usize,
 ) -> u8
-    ensures { λ r. ⌜ seen r (now (place .exit)) ≡ shown (writeResult (shapeBy height distance) (resultOf (now (edges .entry)) (now (escapes .entry)) steps) (now (out .entry)) at .answer) (now (place .entry)) ⌝ }
-    ensures { λ r. ⌜ now (out .exit) ≡ writeResult (shapeBy height distance) (resultOf (now (edges .entry)) (now (escapes .entry)) steps) (now (out .entry)) at .buffer ⌝ }
+    ensures { λ r. ⌜ seen r (now (place .exit)) ≡ shown (writeResult (shapeBy height distance) (asResult (now (edges .entry)) (now (escapes .entry)) steps) (now (out .entry)) at .answer) (now (place .entry)) ⌝ }
+    ensures { λ r. ⌜ now (out .exit) ≡ writeResult (shapeBy height distance) (asResult (now (edges .entry)) (now (escapes .entry)) steps) (now (out .entry)) at .buffer ⌝ }
 {
     match shape::shape_of(height, distance) {
         Shaped::Refused(f) => refuse(f, place),

@@ -8,13 +8,13 @@ use borrow.Author.Needs.{needs}
 use borrow.Author.Tests.{ltb-true, ltb-false}
 use lib.Dec.{ltb}
 use lib.ListN.{length, set, replicate, length-set, length-replicate}
-use Rattle.refusal.specs.Answer.{Answer, done, refusedAt, passed, isDone}
+use Rattle.refusal.specs.Answer.{Answer, done, refusedAt, passed, isDone, valueOr, itself}
 use Rattle.refusal.specs.Laws.{turned-not, done-passed}
 use Rattle.refusal.specs.declared.Refusal.{Refusal}
 use Rattle.number.specs.Number.{numberAt, told}
 use Rattle.number.specs.declared.Read.{Read}
 use Rattle.number.specs.declared.Read.the-variants.{Refused}
-use Rattle.list.specs.Sheet.{entriesAt, listAt, kept}
+use Rattle.list.specs.Sheet.{entriesAt, listAt}
 use Rattle.list.specs.Laws.{list-turned, list-counted, list-past, entries-turned, entries-more, entries-past, entries-none}
 use Rattle.list.proofs.store_list.Statement.{statement}
 use Rattle.list.proofs.store_list.Tie as tie
@@ -67,10 +67,11 @@ begins src size at n next out d h e =
     subst (λ (m : ℕ). Storing src at m out n next 0) (sym long)
     (ap (λ (l : List ℕ). entriesAt src n 0 next l) e ∙ sym (list-counted src size at n next d (counted src size at n next d h)), h, long)
 
-ends : (src : List ℕ) (size at next from left : ℕ) (out old : List ℕ) → Storing src at (length old) out left next from → left ≡ 0 → length old ≡ size → out ≡ kept (listAt src size at)
-ends src size at next from left out old w none long =
+ends : (src : List ℕ) (size at next from left : ℕ) (out old before : List ℕ) → Storing src at (length old) out left next from → left ≡ 0 → length old ≡ size
+    → out ≡ valueOr (listAt src size at) itself before
+ends src size at next from left out old before w none long =
     let whole : done out next ≡ listAt src (length old) at = sym (ap (λ (n : ℕ). entriesAt src n from next out) none ∙ entries-none src from next out) ∙ w .0 in
-    ap kept whole ∙ ap (λ (m : ℕ). kept (listAt src m at)) long
+    ap (λ (a : Answer (List ℕ)). valueOr a itself before) (whole ∙ ap (λ (m : ℕ). listAt src m at) long)
 
 abbrev Inv-loop : tie.InvT-loop
 Inv-loop src at out₀ n first left₀ next₀ from₀ out left next from = Storing src at (length out₀) out left next from
@@ -178,7 +179,7 @@ returns-3 : tie.Need-returns-3 Inv-loop μ-loop
 returns-3 c =
     let l = c .before .loop in
     let a = c .before .before .before .before .before .before .before .before .before .before .before .before .args in
-    ends (a .src .now) (length (a .out .now)) (a .at) (l .next) (l .from) (l .rest) (l .out) (c .before .before .before .before .before .before .before .before .clear .last .0) (l .inv) (omega (arith, c .loop-test .left)) (c .before .before .before .before .before .before .before .before .clear .kept .0)
+    ends (a .src .now) (length (a .out .now)) (a .at) (l .next) (l .from) (l .rest) (l .out) (c .before .before .before .before .before .before .before .before .clear .last .0) (a .out .now) (l .inv) (omega (arith, c .loop-test .left)) (c .before .before .before .before .before .before .before .before .clear .kept .0)
 
 pub store-list-spec : {M : Type 1} → statement M
 store-list-spec =

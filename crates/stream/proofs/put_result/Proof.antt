@@ -11,7 +11,7 @@ use Rattle.refusal.specs.Parts.{Parts, parts-first, parts-more, parts-last, par
 use Rattle.number.specs.Number.{written}
 use Rattle.list.specs.Sheet.{listed}
 use Rattle.stream.specs.Records.{Result, result}
-use Rattle.stream.specs.Calls.{resultOf}
+use Rattle.stream.specs.Calls.{asResult}
 use Rattle.stream.specs.Laws.{result-is, result-long}
 use borrow.Author.Needs.{needs}
 use Rattle.stream.proofs.put_result.Statement.{statement}
@@ -33,42 +33,42 @@ module _ (r : Result) (old : List ℕ) (h : length (result r) ≤ length old) (i
       all = parts-end (result r) old (putBack (putBack out i last) (i + n) end) (i + n + m) third
 
 -- the record has room
-fits : (c : tie.After-slice-known2) → let a = c .before .before .before .before .before .before .before .before .before .before .before .before .before .args in length (result (resultOf (a .edges .now) (a .escapes .now) (a .steps))) ≤ length (a .out .now)
+fits : (c : tie.After-slice-known2) → let a = c .before .before .before .before .before .before .before .before .before .before .before .before .before .args in length (result (asResult (a .edges .now) (a .escapes .now) (a .steps))) ≤ length (a .out .now)
 fits c =
     let a = c .before .before .before .before .before .before .before .before .before .before .before .before .before .args in
-    omega (arith, result-long (resultOf (a .edges .now) (a .escapes .now) (a .steps)), c .before .before .before .before .before .before .before .before .before .list-len .ensures, c .before .before .before .before .before .before .before .list-len2 .ensures, c .before .before .before .before .before .number-len .ensures, c .before .before .before .before .before .before .before .before .if1 .left, c .before .before .before .before .before .before .if2 .left, c .before .before .before .before .if3 .left)
+    omega (arith, result-long (asResult (a .edges .now) (a .escapes .now) (a .steps)), c .before .before .before .before .before .before .before .before .before .list-len .ensures, c .before .before .before .before .before .before .before .list-len2 .ensures, c .before .before .before .before .before .number-len .ensures, c .before .before .before .before .before .before .before .before .if1 .left, c .before .before .before .before .before .before .if2 .left, c .before .before .before .before .if3 .left)
 
 put-first : (c : tie.After-slice-known2)
     → let a = c .before .before .before .before .before .before .before .before .before .before .before .before .before .args in
-    Parts (result (resultOf (a .edges .now) (a .escapes .now) (a .steps))) (a .out .now) (c .before .before .put-list .last .1 .0) (c .before .before .put-list .result) (listed (a .escapes .now) ++ written (a .steps))
+    Parts (result (asResult (a .edges .now) (a .escapes .now) (a .steps))) (a .out .now) (c .before .before .put-list .last .1 .0) (c .before .before .put-list .result) (listed (a .escapes .now) ++ written (a .steps))
 put-first c =
     let a = c .before .before .before .before .before .before .before .before .before .before .before .before .before .args in
     let p = c .before .before .put-list in
-    first (resultOf (a .edges .now) (a .escapes .now) (a .steps)) (a .out .now) (fits c) (p .result) (p .last .1 .0) (p .ensures)
+    first (asResult (a .edges .now) (a .escapes .now) (a .steps)) (a .out .now) (fits c) (p .result) (p .last .1 .0) (p .ensures)
 
 put-second : (c : tie.After-slice-known3)
     → let a = c .before .before .before .before .before .before .before .before .before .before .before .before .before .before .before .before .before .args in
     let p = c .before .before .before .before .before .before .put-list in
     let q = c .before .before .put-list2 in
-    Parts (result (resultOf (a .edges .now) (a .escapes .now) (a .steps))) (a .out .now) (putBack (p .last .1 .0) (p .result) (q .last .1 .0)) (p .result + q .result) (written (a .steps))
+    Parts (result (asResult (a .edges .now) (a .escapes .now) (a .steps))) (a .out .now) (putBack (p .last .1 .0) (p .result) (q .last .1 .0)) (p .result + q .result) (written (a .steps))
 put-second c =
     let a = c .before .before .before .before .before .before .before .before .before .before .before .before .before .before .before .before .before .args in
     let p = c .before .before .before .before .before .before .put-list in
     let q = c .before .before .put-list2 in
-    second (resultOf (a .edges .now) (a .escapes .now) (a .steps)) (a .out .now) (fits (c .before .before .before .before)) (p .result) (p .last .1 .0) (p .ensures) (q .result) (q .last .1 .0) (q .ensures)
+    second (asResult (a .edges .now) (a .escapes .now) (a .steps)) (a .out .now) (fits (c .before .before .before .before)) (p .result) (p .last .1 .0) (p .ensures) (q .result) (q .last .1 .0) (q .ensures)
 
 put-third : (c : tie.After-slice-known4)
     → let a = c .before .before .before .before .before .before .before .before .before .before .before .before .before .before .before .before .before .before .before .before .before .args in
     let p = c .before .before .before .before .before .before .before .before .before .before .put-list in
     let q = c .before .before .before .before .before .before .put-list2 in
     let n = c .before .before .put-number in
-    Parts (result (resultOf (a .edges .now) (a .escapes .now) (a .steps))) (a .out .now) (putBack (putBack (p .last .1 .0) (p .result) (q .last .1 .0)) (p .result + q .result) (n .last .1 .0)) (p .result + q .result + n .result) []
+    Parts (result (asResult (a .edges .now) (a .escapes .now) (a .steps))) (a .out .now) (putBack (putBack (p .last .1 .0) (p .result) (q .last .1 .0)) (p .result + q .result) (n .last .1 .0)) (p .result + q .result + n .result) []
 put-third c =
     let a = c .before .before .before .before .before .before .before .before .before .before .before .before .before .before .before .before .before .before .before .before .before .args in
     let p = c .before .before .before .before .before .before .before .before .before .before .put-list in
     let q = c .before .before .before .before .before .before .put-list2 in
     let n = c .before .before .put-number in
-    third (resultOf (a .edges .now) (a .escapes .now) (a .steps)) (a .out .now) (fits (c .before .before .before .before .before .before .before .before)) (p .result) (p .last .1 .0) (p .ensures) (q .result) (q .last .1 .0) (q .ensures) (n .result) (n .last .1 .0) (n .ensures)
+    third (asResult (a .edges .now) (a .escapes .now) (a .steps)) (a .out .now) (fits (c .before .before .before .before .before .before .before .before)) (p .result) (p .last .1 .0) (p .ensures) (q .result) (q .last .1 .0) (q .ensures) (n .result) (n .last .1 .0) (n .ensures)
 
 list-len-requires : tie.Need-list-len-requires
 list-len-requires c κs = search needs
@@ -76,7 +76,7 @@ list-len-requires c κs = search needs
 returns : tie.Need-returns
 returns c =
     let a = c .before .before .before .before .before .args in
-    sym (front-full (a .out .now) (result (resultOf (a .edges .now) (a .escapes .now) (a .steps))) (omega (arith, result-long (resultOf (a .edges .now) (a .escapes .now) (a .steps)), c .before .list-len .ensures, c .if1 .taken)))
+    sym (front-full (a .out .now) (result (asResult (a .edges .now) (a .escapes .now) (a .steps))) (omega (arith, result-long (asResult (a .edges .now) (a .escapes .now) (a .steps)), c .before .list-len .ensures, c .if1 .taken)))
 
 list-len-requires-2 : tie.Need-list-len-requires-2
 list-len-requires-2 c κs = search needs
@@ -84,7 +84,7 @@ list-len-requires-2 c κs = search needs
 returns-2 : tie.Need-returns-2
 returns-2 c =
     let a = c .before .before .before .before .before .before .before .args in
-    sym (front-full (a .out .now) (result (resultOf (a .edges .now) (a .escapes .now) (a .steps))) (omega (arith, result-long (resultOf (a .edges .now) (a .escapes .now) (a .steps)), c .before .before .before .list-len .ensures, c .before .list-len2 .ensures, c .if2 .taken)))
+    sym (front-full (a .out .now) (result (asResult (a .edges .now) (a .escapes .now) (a .steps))) (omega (arith, result-long (asResult (a .edges .now) (a .escapes .now) (a .steps)), c .before .before .before .list-len .ensures, c .before .list-len2 .ensures, c .if2 .taken)))
 
 sub-if3 : tie.Need-sub-if3
 sub-if3 c = search needs
@@ -95,7 +95,7 @@ number-len-requires c κs = search needs
 returns-3 : tie.Need-returns-3
 returns-3 c =
     let a = c .before .before .before .before .before .before .before .before .before .args in
-    sym (front-full (a .out .now) (result (resultOf (a .edges .now) (a .escapes .now) (a .steps))) (omega (arith, result-long (resultOf (a .edges .now) (a .escapes .now) (a .steps)), c .before .before .before .before .before .list-len .ensures, c .before .before .before .list-len2 .ensures, c .before .number-len .ensures, c .if3 .taken)))
+    sym (front-full (a .out .now) (result (asResult (a .edges .now) (a .escapes .now) (a .steps))) (omega (arith, result-long (asResult (a .edges .now) (a .escapes .now) (a .steps)), c .before .before .before .before .before .list-len .ensures, c .before .before .before .list-len2 .ensures, c .before .number-len .ensures, c .if3 .taken)))
 
 put-list-requires : tie.Need-put-list-requires
 put-list-requires c κs = search needs
@@ -139,7 +139,7 @@ returns-4 c =
     let p = c .before .before .before .before .before .before .before .before .before .before .put-list in
     let q = c .before .before .before .before .before .before .put-list2 in
     let n = c .before .before .put-number in
-    all (resultOf (a .edges .now) (a .escapes .now) (a .steps)) (a .out .now) (fits (c .before .before .before .before .before .before .before .before)) (p .result) (p .last .1 .0) (p .ensures) (q .result) (q .last .1 .0) (q .ensures) (n .result) (n .last .1 .0) (n .ensures)
+    all (asResult (a .edges .now) (a .escapes .now) (a .steps)) (a .out .now) (fits (c .before .before .before .before .before .before .before .before)) (p .result) (p .last .1 .0) (p .ensures) (q .result) (q .last .1 .0) (q .ensures) (n .result) (n .last .1 .0) (n .ensures)
 
 pub put-result-spec : {M : Type 1} → statement M
 put-result-spec =

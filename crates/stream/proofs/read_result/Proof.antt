@@ -5,16 +5,16 @@ use mathlib.Core.List.{List, [], _∷_, _++_}
 use Prim.Native.Nat.{ℕ, _≤_, _<_}
 use borrow.Author.Tests.{eq-eqb, ne-eqb}
 use lib.ListN.{length}
-use Rattle.refusal.specs.Answer.{Answer, done, ended, turned, unless, isDone}
+use Rattle.refusal.specs.Answer.{Answer, done, ended, turned, unless, isDone, valueOr}
 use Rattle.refusal.specs.Tests.{Passes, Turned, pass-none, pass-one, pass-append, turn-here, turn-later, turned-first, turned-after}
 use Rattle.refusal.specs.declared.Refusal.{Refusal}
 use Rattle.refusal.specs.Laws.{turned-not}
 use Rattle.refusal.specs.declared.Refusal.the-variants.{Edges, Escapes}
 use Rattle.shape.specs.Sizes.{detectorsOf, layerEdgesOf}
 use Rattle.shape.specs.declared.Shape.{Shape}
-use Rattle.stream.specs.Records.{Result, resultFrom, resultAt, keptEdges, keptEscapes}
+use Rattle.stream.specs.Records.{Result, resultFrom, resultAt, edgesOf, escapesOf}
 use Rattle.stream.specs.Calls.{placeTests, edgesTest, escapesTest, Committed, committed, intoBoth, stepsOf, readResult, toldResult}
-use Rattle.stream.specs.Laws.{at-end, before-end, result-turned, both-not, both-done, done-steps}
+use Rattle.stream.specs.Laws.{at-end, before-end, result-turned, both-not, done-steps}
 use Rattle.stream.specs.declared.ResultRead.{ResultRead}
 use Rattle.stream.specs.declared.ResultRead.the-variants.{Steps, End, Refused}
 use Rattle.stream.proofs.Places.{place-turned, place-passes}
@@ -71,14 +71,12 @@ module _ (sh : Shape) (s : List ℕ) (at : ℕ) (edges escapes : List ℕ) where
               ∙ both-not (resultFrom s (length edges) (length escapes) at) edges escapes (sym (done-steps (resultFrom s (length edges) (length escapes) at)) ∙ sym (ap (λ (b : Answer ℕ). isDone b) q) ∙ x)
               ∙ scanned
 
-          stored : (a : Answer ℕ) (newEdges newEscapes : List ℕ) → a ≡ stepsOf (resultFrom s (length edges) (length escapes) at) → isDone a ≡ true
-              → newEdges ≡ keptEdges (resultFrom s (length edges) (length escapes) at) → newEscapes ≡ keptEscapes (resultFrom s (length edges) (length escapes) at)
-              → committed a newEdges newEscapes ≡ readResult sh s at edges escapes
-          stored a newEdges newEscapes q x u v =
+          stored : (a : Answer ℕ) (newEdges newEscapes : List ℕ) → a ≡ stepsOf (resultFrom s (length edges) (length escapes) at) → newEdges ≡ valueOr (resultFrom s (length edges) (length escapes) at) edgesOf edges
+              → newEscapes ≡ valueOr (resultFrom s (length edges) (length escapes) at) escapesOf escapes → committed a newEdges newEscapes ≡ readResult sh s at edges escapes
+          stored a newEdges newEscapes q u v =
               ap (λ (b : Answer ℕ). committed b newEdges newEscapes) q
               ∙ ap (λ (l : List ℕ). committed (stepsOf (resultFrom s (length edges) (length escapes) at)) l newEscapes) u
-              ∙ ap (λ (l : List ℕ). committed (stepsOf (resultFrom s (length edges) (length escapes) at)) (keptEdges (resultFrom s (length edges) (length escapes) at)) l) v
-              ∙ both-done (resultFrom s (length edges) (length escapes) at) edges escapes (sym (done-steps (resultFrom s (length edges) (length escapes) at)) ∙ sym (ap (λ (b : Answer ℕ). isDone b) q) ∙ x)
+              ∙ ap (λ (l : List ℕ). committed (stepsOf (resultFrom s (length edges) (length escapes) at)) (valueOr (resultFrom s (length edges) (length escapes) at) edgesOf edges) l) v
               ∙ scanned
 
 test-place-requires : tie.Need-test-place-requires
@@ -156,7 +154,7 @@ returns-7 c =
     let a = c .before .before .before .before .before .before .before .before .before .before .before .before .before .before .before .before .before .before .before .before .before .before .args in
     let k = c .before .before .before .before .before .before .before .before .steps .given in
     let q = c .before .before .before .before .store-result in
-    stored (a .shape) (a .src .now) (a .at) (a .edges .now) (a .escapes .now) (c .before .before .before .before .before .before .before .before .before .before .before .before .before .before .before .layer-edges .result) (c .before .before .before .before .before .before .before .before .before .before .before .before .before .before .before .layer-edges .ensures) (c .before .before .before .before .before .before .before .before .before .before .before .before .before .before .if1 .left) (c .before .before .before .before .before .before .before .before .before .before .before .before .before .detectors .result) (c .before .before .before .before .before .before .before .before .before .before .before .before .before .detectors .ensures) (c .before .before .before .before .before .before .before .before .before .before .before .before .if2 .left) (place-passes (a .shape) (length (a .src .now)) (a .at) (c .before .before .before .before .before .before .before .before .before .before .before .before .before .before .before .before .before .before .test-place .result) (c .before .before .before .before .before .before .before .before .before .before .before .before .before .before .before .before .before .before .test-place .ensures) (c .before .before .before .before .before .before .before .before .before .before .before .before .before .before .before .before .enum-told .given .1)) (c .before .before .before .before .before .before .before .before .before .before .before .if3 .left) (done (k .0 .0) (k .0 .1 .0)) (q .last .1 .1 .0) (q .last .1 .1 .1 .0) (ap toldResult (sym (k .1)) ∙ c .before .before .before .before .before .before .before .before .before .before .scan-result .ensures) refl (q .ensures .0) (q .ensures .1)
+    stored (a .shape) (a .src .now) (a .at) (a .edges .now) (a .escapes .now) (c .before .before .before .before .before .before .before .before .before .before .before .before .before .before .before .layer-edges .result) (c .before .before .before .before .before .before .before .before .before .before .before .before .before .before .before .layer-edges .ensures) (c .before .before .before .before .before .before .before .before .before .before .before .before .before .before .if1 .left) (c .before .before .before .before .before .before .before .before .before .before .before .before .before .detectors .result) (c .before .before .before .before .before .before .before .before .before .before .before .before .before .detectors .ensures) (c .before .before .before .before .before .before .before .before .before .before .before .before .if2 .left) (place-passes (a .shape) (length (a .src .now)) (a .at) (c .before .before .before .before .before .before .before .before .before .before .before .before .before .before .before .before .before .before .test-place .result) (c .before .before .before .before .before .before .before .before .before .before .before .before .before .before .before .before .before .before .test-place .ensures) (c .before .before .before .before .before .before .before .before .before .before .before .before .before .before .before .before .enum-told .given .1)) (c .before .before .before .before .before .before .before .before .before .before .before .if3 .left) (done (k .0 .0) (k .0 .1 .0)) (q .last .1 .1 .0) (q .last .1 .1 .1 .0) (ap toldResult (sym (k .1)) ∙ c .before .before .before .before .before .before .before .before .before .before .scan-result .ensures) (q .ensures .0) (q .ensures .1)
 
 pub read-result-spec : {M : Type 1} → statement M
 read-result-spec =

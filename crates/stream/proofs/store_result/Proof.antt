@@ -5,13 +5,13 @@ use mathlib.Core.List.{List}
 use Prim.Native.Nat.{ℕ}
 use lib.ListN.{length}
 use Rattle.refusal.specs.Writing.{Left, left}
-use Rattle.refusal.specs.Answer.{Answer, done, turned, isDone}
+use Rattle.refusal.specs.Answer.{Answer, done, turned, isDone, valueOr}
 use Rattle.refusal.specs.Laws.{turned-not, undone}
 use Rattle.refusal.specs.declared.Refusal.{Refusal}
 use Rattle.list.specs.Sheet.{listAt, told, toldRead, into, readList}
 use Rattle.list.specs.declared.Listed.{Listed}
 use Rattle.list.specs.declared.Listed.the-variants.{To, Refused}
-use Rattle.stream.specs.Records.{Result, resultFrom, keptEdges, keptEscapes}
+use Rattle.stream.specs.Records.{Result, resultFrom, edgesOf, escapesOf}
 use Rattle.stream.specs.Laws.{ResultParts, result-parts}
 use borrow.Author.Needs.{needs}
 use Rattle.stream.proofs.store_result.Statement.{statement}
@@ -35,12 +35,12 @@ module _ (s : List ℕ) (at : ℕ) (old new : List ℕ) (r : Listed) (e : toldRe
       undone (sym (ap (λ (x : Answer (Unit {0})). isDone x) z) ∙ turned-not (Unit {0}) f)
 
 -- the record's lists, by its parts
-module _ (s : List ℕ) (edges detectors at : ℕ) (p : ResultParts s edges detectors at) where
-  edges-kept : p .committed ≡ keptEdges (resultFrom s edges detectors at)
-  edges-kept = sym (ap keptEdges (p .whole))
+module _ (s : List ℕ) (edges detectors at : ℕ) (p : ResultParts s edges detectors at) (old : List ℕ) where
+  edges-kept : p .committed ≡ valueOr (resultFrom s edges detectors at) edgesOf old
+  edges-kept = sym (ap (λ (a : Answer Result). valueOr a edgesOf old) (p .whole))
 
-  escapes-kept : p .escaped ≡ keptEscapes (resultFrom s edges detectors at)
-  escapes-kept = sym (ap keptEscapes (p .whole))
+  escapes-kept : p .escaped ≡ valueOr (resultFrom s edges detectors at) escapesOf old
+  escapes-kept = sym (ap (λ (a : Answer Result). valueOr a escapesOf old) (p .whole))
 
 read-list-requires : tie.Need-read-list-requires
 read-list-requires c κs = search needs
@@ -80,8 +80,8 @@ returns-2 c =
     let q = c .before .before .read-list2 in
     let k = c .before .before .before .before .before .first .given in
     let n = next-is (a .src .now) (a .at) (a .edges .now) (r .last .1 .1 .0) (r .result) (r .ensures) (p .committed) (p .next) (p .edges-read) (k .0 .0) (k .1) in (
-      entries-are (a .src .now) (a .at) (a .edges .now) (r .last .1 .1 .0) (r .result) (r .ensures) (p .committed) (p .next) (p .edges-read) ∙ edges-kept (a .src .now) (length (a .edges .now)) (length (a .escapes .now)) (a .at) p,
-      entries-are (a .src .now) (k .0 .0) (a .escapes .now) (q .last .1 .1 .0) (q .result) (q .ensures) (p .escaped) (p .last) (ap (λ (m : ℕ). listAt (a .src .now) (length (a .escapes .now)) m) n ∙ p .escapes-read) ∙ escapes-kept (a .src .now) (length (a .edges .now)) (length (a .escapes .now)) (a .at) p,
+      entries-are (a .src .now) (a .at) (a .edges .now) (r .last .1 .1 .0) (r .result) (r .ensures) (p .committed) (p .next) (p .edges-read) ∙ edges-kept (a .src .now) (length (a .edges .now)) (length (a .escapes .now)) (a .at) p (a .edges .now),
+      entries-are (a .src .now) (k .0 .0) (a .escapes .now) (q .last .1 .1 .0) (q .result) (q .ensures) (p .escaped) (p .last) (ap (λ (m : ℕ). listAt (a .src .now) (length (a .escapes .now)) m) n ∙ p .escapes-read) ∙ escapes-kept (a .src .now) (length (a .edges .now)) (length (a .escapes .now)) (a .at) p (a .escapes .now),
     )
 
 pub store-result-spec : {M : Type 1} → statement M

@@ -13,7 +13,7 @@ use Rattle.list.specs.Sheet.{areBits}
 use Rattle.shape.specs.Sizes.{detectorsOf, layerEdgesOf}
 use Rattle.shape.specs.declared.Shape.{Shape}
 use Rattle.stream.specs.Records.{result}
-use Rattle.stream.specs.Calls.{edgesTest, escapesTest, resultOf}
+use Rattle.stream.specs.Calls.{edgesTest, escapesTest, asResult}
 use Rattle.stream.specs.Laws.{length-result}
 use Rattle.stream.proofs.Places.{place-inside, writer-misplaced, writer-turned, writer-full, writer-inside, writer-done}
 use borrow.Author.Needs.{needs}
@@ -76,7 +76,7 @@ returns c =
     let a = c .before .before .before .before .before .before .before .args in
     let t = c .before .before .before .test-place in
     let k = c .before .tested .given in
-    writer-misplaced (a .shape) (a .out .now) (a .at) (t .result) (t .ensures) (more (a .shape) (a .edges .now) (a .escapes .now)) (result (resultOf (a .edges .now) (a .escapes .now) (a .steps))) (k .0 .0) (k .1)
+    writer-misplaced (a .shape) (a .out .now) (a .at) (t .result) (t .ensures) (more (a .shape) (a .edges .now) (a .escapes .now)) (result (asResult (a .edges .now) (a .escapes .now) (a .steps))) (k .0 .0) (k .1)
 
 enum-told : tie.Need-enum-told
 enum-told c = search needs
@@ -88,7 +88,7 @@ returns-2 : tie.Need-returns-2
 returns-2 c =
     let a = c .before .before .before .before .before .before .before .before .args in
     let t = c .before .before .before .before .test-place in
-    writer-turned (a .shape) (a .out .now) (a .at) (t .result) (t .ensures) (more (a .shape) (a .edges .now) (a .escapes .now)) (result (resultOf (a .edges .now) (a .escapes .now) (a .steps))) (c .before .before .enum-told .given .1) Edges
+    writer-turned (a .shape) (a .out .now) (a .at) (t .result) (t .ensures) (more (a .shape) (a .edges .now) (a .escapes .now)) (result (asResult (a .edges .now) (a .escapes .now) (a .steps))) (c .before .before .enum-told .given .1) Edges
     (wrong-edges (a .shape) (a .edges .now) (a .escapes .now) (c .before .layer-edges .result) (c .before .layer-edges .ensures) (c .if1 .taken))
 
 detectors-requires : tie.Need-detectors-requires
@@ -98,7 +98,7 @@ returns-3 : tie.Need-returns-3
 returns-3 c =
     let a = c .before .before .before .before .before .before .before .before .before .before .args in
     let t = c .before .before .before .before .before .before .test-place in
-    writer-turned (a .shape) (a .out .now) (a .at) (t .result) (t .ensures) (more (a .shape) (a .edges .now) (a .escapes .now)) (result (resultOf (a .edges .now) (a .escapes .now) (a .steps))) (c .before .before .before .before .enum-told .given .1) Escapes
+    writer-turned (a .shape) (a .out .now) (a .at) (t .result) (t .ensures) (more (a .shape) (a .edges .now) (a .escapes .now)) (result (asResult (a .edges .now) (a .escapes .now) (a .steps))) (c .before .before .before .before .enum-told .given .1) Escapes
     (edges-then (a .shape) (a .edges .now) (a .escapes .now) (c .before .before .before .layer-edges .result) (c .before .before .before .layer-edges .ensures) (c .before .before .if1 .left) Escapes (wrong-escapes (a .shape) (a .edges .now) (a .escapes .now) (c .before .detectors .result) (c .before .detectors .ensures) (c .if2 .taken)))
 
 are-bits-requires : tie.Need-are-bits-requires
@@ -108,7 +108,7 @@ returns-4 : tie.Need-returns-4
 returns-4 c =
     let a = c .before .before .before .before .before .before .before .before .before .before .before .before .args in
     let t = c .before .before .before .before .before .before .before .before .test-place in
-    writer-turned (a .shape) (a .out .now) (a .at) (t .result) (t .ensures) (more (a .shape) (a .edges .now) (a .escapes .now)) (result (resultOf (a .edges .now) (a .escapes .now) (a .steps))) (c .before .before .before .before .before .before .enum-told .given .1) Byte
+    writer-turned (a .shape) (a .out .now) (a .at) (t .result) (t .ensures) (more (a .shape) (a .edges .now) (a .escapes .now)) (result (asResult (a .edges .now) (a .escapes .now) (a .steps))) (c .before .before .before .before .before .before .enum-told .given .1) Byte
     (edges-then (a .shape) (a .edges .now) (a .escapes .now) (c .before .before .before .before .before .layer-edges .result) (c .before .before .before .before .before .layer-edges .ensures) (c .before .before .before .before .if1 .left) Byte
     (wild-edges (a .shape) (a .edges .now) (a .escapes .now) (c .before .before .before .detectors .result) (c .before .before .before .detectors .ensures) (c .before .before .if2 .left) (sym (c .before .are-bits .ensures) ∙ not-true _ (c .if3 .taken))))
 
@@ -119,7 +119,7 @@ returns-5 : tie.Need-returns-5
 returns-5 c =
     let a = c .before .before .before .before .before .before .before .before .before .before .before .before .before .before .args in
     let t = c .before .before .before .before .before .before .before .before .before .before .test-place in
-    writer-turned (a .shape) (a .out .now) (a .at) (t .result) (t .ensures) (more (a .shape) (a .edges .now) (a .escapes .now)) (result (resultOf (a .edges .now) (a .escapes .now) (a .steps))) (c .before .before .before .before .before .before .before .before .enum-told .given .1) Byte
+    writer-turned (a .shape) (a .out .now) (a .at) (t .result) (t .ensures) (more (a .shape) (a .edges .now) (a .escapes .now)) (result (asResult (a .edges .now) (a .escapes .now) (a .steps))) (c .before .before .before .before .before .before .before .before .enum-told .given .1) Byte
     (edges-then (a .shape) (a .edges .now) (a .escapes .now) (c .before .before .before .before .before .before .before .layer-edges .result) (c .before .before .before .before .before .before .before .layer-edges .ensures) (c .before .before .before .before .before .before .if1 .left) Byte
     (wild-escapes (a .shape) (a .edges .now) (a .escapes .now) (c .before .before .before .before .before .detectors .result) (c .before .before .before .before .before .detectors .ensures) (c .before .before .before .before .if2 .left) (sym (c .before .before .before .are-bits .ensures) ∙ not-false _ (c .before .before .if3 .left))
     (sym (c .before .are-bits2 .ensures) ∙ not-true _ (c .if4 .taken))))
@@ -150,12 +150,12 @@ returns-6 c =
     let a = c .before .before .before .before .before .before .before .before .before .before .before .before .before .before .before .before .before .before .before .args in
     let t = c .before .before .before .before .before .before .before .before .before .before .before .before .before .before .before .test-place in
     let p = c .before .before .before .put-result in
-    writer-full (a .shape) (a .out .now) (a .at) (t .result) (t .ensures) (more (a .shape) (a .edges .now) (a .escapes .now)) (result (resultOf (a .edges .now) (a .escapes .now) (a .steps))) (c .before .before .before .before .before .before .before .before .before .before .before .before .before .enum-told .given .1)
+    writer-full (a .shape) (a .out .now) (a .at) (t .result) (t .ensures) (more (a .shape) (a .edges .now) (a .escapes .now)) (result (asResult (a .edges .now) (a .escapes .now) (a .steps))) (c .before .before .before .before .before .before .before .before .before .before .before .before .before .enum-told .given .1)
     (edges-pass (a .shape) (a .edges .now) (a .escapes .now) (c .before .before .before .before .before .before .before .before .before .before .before .before .layer-edges .result) (c .before .before .before .before .before .before .before .before .before .before .before .before .layer-edges .ensures) (c .before .before .before .before .before .before .before .before .before .before .before .if1 .left)
     (escapes-pass (a .shape) (a .edges .now) (a .escapes .now) (c .before .before .before .before .before .before .before .before .before .before .detectors .result) (c .before .before .before .before .before .before .before .before .before .before .detectors .ensures) (c .before .before .before .before .before .before .before .before .before .if2 .left)
     (sym (c .before .before .before .before .before .before .before .before .are-bits .ensures) ∙ not-false _ (c .before .before .before .before .before .before .before .if3 .left))
     (sym (c .before .before .before .before .before .before .are-bits2 .ensures) ∙ not-false _ (c .before .before .before .before .before .if4 .left))))
-    (length-result (resultOf (a .edges .now) (a .escapes .now) (a .steps))) (p .result) (p .last .1 .1 .1 .0) (p .ensures) (c .if5 .taken)
+    (length-result (asResult (a .edges .now) (a .escapes .now) (a .steps))) (p .result) (p .last .1 .1 .1 .0) (p .ensures) (c .if5 .taken)
 
 add-t11 : tie.Need-add-t11
 add-t11 c =
@@ -163,12 +163,12 @@ add-t11 c =
     let t = c .before .before .before .before .before .before .before .before .before .before .before .before .before .before .before .test-place in
     let p = c .before .before .before .put-result in
     let h =
-    writer-inside (a .shape) (a .out .now) (a .at) (t .result) (t .ensures) (more (a .shape) (a .edges .now) (a .escapes .now)) (result (resultOf (a .edges .now) (a .escapes .now) (a .steps))) (c .before .before .before .before .before .before .before .before .before .before .before .before .before .enum-told .given .1)
+    writer-inside (a .shape) (a .out .now) (a .at) (t .result) (t .ensures) (more (a .shape) (a .edges .now) (a .escapes .now)) (result (asResult (a .edges .now) (a .escapes .now) (a .steps))) (c .before .before .before .before .before .before .before .before .before .before .before .before .before .enum-told .given .1)
     (edges-pass (a .shape) (a .edges .now) (a .escapes .now) (c .before .before .before .before .before .before .before .before .before .before .before .before .layer-edges .result) (c .before .before .before .before .before .before .before .before .before .before .before .before .layer-edges .ensures) (c .before .before .before .before .before .before .before .before .before .before .before .if1 .left)
     (escapes-pass (a .shape) (a .edges .now) (a .escapes .now) (c .before .before .before .before .before .before .before .before .before .before .detectors .result) (c .before .before .before .before .before .before .before .before .before .before .detectors .ensures) (c .before .before .before .before .before .before .before .before .before .if2 .left)
     (sym (c .before .before .before .before .before .before .before .before .are-bits .ensures) ∙ not-false _ (c .before .before .before .before .before .before .before .if3 .left))
     (sym (c .before .before .before .before .before .before .are-bits2 .ensures) ∙ not-false _ (c .before .before .before .before .before .if4 .left))))
-    (length-result (resultOf (a .edges .now) (a .escapes .now) (a .steps))) (p .result) (p .last .1 .1 .1 .0) (p .ensures) (c .if5 .left) in
+    (length-result (asResult (a .edges .now) (a .escapes .now) (a .steps))) (p .result) (p .last .1 .1 .1 .0) (p .ensures) (c .if5 .left) in
     omega (arith, h, c .before .before .before .before .before .before .before .before .before .before .before .before .before .before .before .before .before .before .before .good)
 
 same-length-2 : tie.Need-same-length-2
@@ -179,12 +179,12 @@ returns-7 c =
     let a = c .before .before .before .before .before .before .before .before .before .before .before .before .before .before .before .before .before .before .before .args in
     let t = c .before .before .before .before .before .before .before .before .before .before .before .before .before .before .before .test-place in
     let p = c .before .before .before .put-result in
-    writer-done (a .shape) (a .out .now) (a .at) (t .result) (t .ensures) (more (a .shape) (a .edges .now) (a .escapes .now)) (result (resultOf (a .edges .now) (a .escapes .now) (a .steps))) (c .before .before .before .before .before .before .before .before .before .before .before .before .before .enum-told .given .1)
+    writer-done (a .shape) (a .out .now) (a .at) (t .result) (t .ensures) (more (a .shape) (a .edges .now) (a .escapes .now)) (result (asResult (a .edges .now) (a .escapes .now) (a .steps))) (c .before .before .before .before .before .before .before .before .before .before .before .before .before .enum-told .given .1)
     (edges-pass (a .shape) (a .edges .now) (a .escapes .now) (c .before .before .before .before .before .before .before .before .before .before .before .before .layer-edges .result) (c .before .before .before .before .before .before .before .before .before .before .before .before .layer-edges .ensures) (c .before .before .before .before .before .before .before .before .before .before .before .if1 .left)
     (escapes-pass (a .shape) (a .edges .now) (a .escapes .now) (c .before .before .before .before .before .before .before .before .before .before .detectors .result) (c .before .before .before .before .before .before .before .before .before .before .detectors .ensures) (c .before .before .before .before .before .before .before .before .before .if2 .left)
     (sym (c .before .before .before .before .before .before .before .before .are-bits .ensures) ∙ not-false _ (c .before .before .before .before .before .before .before .if3 .left))
     (sym (c .before .before .before .before .before .before .are-bits2 .ensures) ∙ not-false _ (c .before .before .before .before .before .if4 .left))))
-    (length-result (resultOf (a .edges .now) (a .escapes .now) (a .steps))) (p .result) (p .last .1 .1 .1 .0) (p .ensures) (c .if5 .left)
+    (length-result (asResult (a .edges .now) (a .escapes .now) (a .steps))) (p .result) (p .last .1 .1 .1 .0) (p .ensures) (c .if5 .left)
 
 pub write-result-spec : {M : Type 1} → statement M
 write-result-spec =

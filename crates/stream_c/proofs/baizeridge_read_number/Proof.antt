@@ -1,7 +1,7 @@
 -- `stream_c::baizeridge_read_number` meets its contract. Assumes nothing.
 use mathlib.Core.Path.{_≡_, refl, sym, _∙_, ap}
 use Rattle.number.specs.Number.{told, numberAt}
-use Rattle.stream_c.specs.Seen.{itself}
+use Rattle.refusal.specs.Answer.{itself}
 use Rattle.stream_c.specs.Laws.{seen-done, seen-turned, value-done, value-turned}
 use borrow.Author.Needs.{needs}
 use Rattle.stream_c.proofs.baizeridge_read_number.Statement.{statement}

@@ -6,7 +6,8 @@ use Rattle.refusal.specs.Tests.{turned-first}
 use Rattle.shape.specs.declared.Shape.{Shape}
 use Rattle.stream.specs.Laws.{result-turned}
 use Rattle.stream.specs.Calls.{placeTests, edgesTest, escapesTest, Committed, readResult, toldResult}
-use Rattle.stream_c.specs.Seen.{shapeBy, itself}
+use Rattle.refusal.specs.Answer.{itself}
+use Rattle.stream_c.specs.Seen.{shapeBy}
 use Rattle.stream_c.specs.Laws.{seen-done, seen-ended, seen-turned, value-done, value-ended, value-turned, shape-turned, shape-named}
 use borrow.Author.Needs.{needs}
 use Rattle.stream_c.proofs.baizeridge_read_result.Statement.{statement}

@@ -8,7 +8,7 @@ use Rattle.refusal.specs.Filling.{writing-turned}
 use Rattle.list.specs.Sheet.{listed, areBits}
 use Rattle.shape.specs.declared.Shape.{Shape}
 use Rattle.stream.specs.Records.{header, result}
-use Rattle.stream.specs.Calls.{placeTests, defectsTest, edgesTest, escapesTest, writeHeader, writeRound, writeResult, resultOf}
+use Rattle.stream.specs.Calls.{placeTests, defectsTest, edgesTest, escapesTest, writeHeader, writeRound, writeResult, asResult}
 use Rattle.stream_c.specs.Seen.{shown, shapeBy}
 use Rattle.stream_c.specs.Laws.{seen-turned, shape-turned, shape-named}
 use borrow.Author.Needs.{needs}

@@ -8,7 +8,7 @@ use Rattle.refusal.specs.Filling.{writing-turned}
 use Rattle.list.specs.Sheet.{listed, areBits}
 use Rattle.shape.specs.declared.Shape.{Shape}
 use Rattle.stream.specs.Records.{header, result}
-use Rattle.stream.specs.Calls.{placeTests, defectsTest, edgesTest, escapesTest, writeHeader, writeRound, writeResult, resultOf}
+use Rattle.stream.specs.Calls.{placeTests, defectsTest, edgesTest, escapesTest, writeHeader, writeRound, writeResult, asResult}
 use Rattle.stream_c.specs.Seen.{shown, shapeBy}
 use Rattle.stream_c.specs.Laws.{seen-turned, shape-turned, shape-named}
 use borrow.Author.Needs.{needs}
@@ -37,8 +37,8 @@ returns : tie.Need-returns
 returns c =
     let a = c .before .before .before .before .before .before .before .before .before .args in
     let k = c .before .before .before .f .given in
-    let e = writing-turned ((placeTests (shapeBy (a .height) (a .distance)) (length (a .out .now)) (a .at)) ++ (edgesTest (shapeBy (a .height) (a .distance)) (a .edges .now) ∷ escapesTest (shapeBy (a .height) (a .distance)) (a .escapes .now) ∷ (areBits (a .edges .now), 4) ∷ (areBits (a .escapes .now), 4) ∷ [])) (a .out .now) (a .at) (result (resultOf (a .edges .now) (a .escapes .now) (a .steps))) (k .0 .0) (turned-first (placeTests (shapeBy (a .height) (a .distance)) (length (a .out .now)) (a .at)) (edgesTest (shapeBy (a .height) (a .distance)) (a .edges .now) ∷ escapesTest (shapeBy (a .height) (a .distance)) (a .escapes .now) ∷ (areBits (a .edges .now), 4) ∷ (areBits (a .escapes .now), 4) ∷ []) (k .0 .0) (shape-turned (a .height) (a .distance) (c .before .before .before .before .before .shape-of .result) (c .before .before .before .before .before .shape-of .ensures) (k .0 .0) (k .1) (length (a .out .now)) (a .at))) in
-    (c .refuse .ensures ∙ seen-turned (writeResult (shapeBy (a .height) (a .distance)) (resultOf (a .edges .now) (a .escapes .now) (a .steps)) (a .out .now) (a .at) .answer) (a .place .now) (k .0 .0) (sym (ap (λ (x : Left). x .answer) e)), ap (λ (x : Left). x .buffer) e)
+    let e = writing-turned ((placeTests (shapeBy (a .height) (a .distance)) (length (a .out .now)) (a .at)) ++ (edgesTest (shapeBy (a .height) (a .distance)) (a .edges .now) ∷ escapesTest (shapeBy (a .height) (a .distance)) (a .escapes .now) ∷ (areBits (a .edges .now), 4) ∷ (areBits (a .escapes .now), 4) ∷ [])) (a .out .now) (a .at) (result (asResult (a .edges .now) (a .escapes .now) (a .steps))) (k .0 .0) (turned-first (placeTests (shapeBy (a .height) (a .distance)) (length (a .out .now)) (a .at)) (edgesTest (shapeBy (a .height) (a .distance)) (a .edges .now) ∷ escapesTest (shapeBy (a .height) (a .distance)) (a .escapes .now) ∷ (areBits (a .edges .now), 4) ∷ (areBits (a .escapes .now), 4) ∷ []) (k .0 .0) (shape-turned (a .height) (a .distance) (c .before .before .before .before .before .shape-of .result) (c .before .before .before .before .before .shape-of .ensures) (k .0 .0) (k .1) (length (a .out .now)) (a .at))) in
+    (c .refuse .ensures ∙ seen-turned (writeResult (shapeBy (a .height) (a .distance)) (asResult (a .edges .now) (a .escapes .now) (a .steps)) (a .out .now) (a .at) .answer) (a .place .now) (k .0 .0) (sym (ap (λ (x : Left). x .answer) e)), ap (λ (x : Left). x .buffer) e)
 
 same-length : tie.Need-same-length
 same-length c = search needs
@@ -47,7 +47,7 @@ returns-2 : tie.Need-returns-2
 returns-2 c =
     let a = c .before .before .before .before .before .before .before .before .before .before .before .before .before .args in
     let k = c .before .before .before .before .before .before .before .shape .given in
-    let e = c .before .before .before .before .write-result .ensures ∙ ap (λ (sh : Shape). writeResult sh (resultOf (a .edges .now) (a .escapes .now) (a .steps)) (a .out .now) (a .at)) (shape-named (a .height) (a .distance) (c .before .before .before .before .before .before .before .before .before .shape-of .result) (c .before .before .before .before .before .before .before .before .before .shape-of .ensures) (k .0 .0) (k .1)) in
+    let e = c .before .before .before .before .write-result .ensures ∙ ap (λ (sh : Shape). writeResult sh (asResult (a .edges .now) (a .escapes .now) (a .steps)) (a .out .now) (a .at)) (shape-named (a .height) (a .distance) (c .before .before .before .before .before .before .before .before .before .shape-of .result) (c .before .before .before .before .before .before .before .before .before .shape-of .ensures) (k .0 .0) (k .1)) in
     (c .wrote .ensures ∙ ap (λ (x : Left). shown (x .answer) (a .place .now)) e, ap (λ (x : Left). x .buffer) e)
 
 pub baizeridge-write-result-spec : {M : Type 1} → statement M
