@@ -11,7 +11,7 @@ use lib.ListN.{length, drop, set, replicate, length-append, length-replicate, re
 use lib.Seq.{set-at, append-snoc}
 use borrow.Author.Tests.{lt-ltb, le-leb, lt-leb, ltb-true}
 use Rattle.refusal.specs.Answer.{Answer, done, refusedAt, andThen}
-use Rattle.refusal.specs.Done.{goes-on, Went, went, passes, passed}
+use Rattle.refusal.specs.Done.{goes-on, Went, went, passes, took}
 use Rattle.refusal.specs.Ends.{NoEnd, no-end-then, no-end-test}
 use Rattle.refusal.specs.Bytes.{Bytes}
 use Rattle.refusal.specs.Filling.{drop-part}
@@ -176,7 +176,7 @@ entries-found (suc n) s at m before xs next b h e =
     let k : ℕ = g .value in
     let w : NumberWrites s at k (g .next) = number-writes s at k (g .next) b (g .before) in
     let p : (ltb (length before + k) (length entries) ≡ true) × (entriesAt s n (length before + k + 1) (g .next) (set entries (length before + k) 1) ≡ done xs next) =
-    passed _ _ _ _ _ (λ x. x) (g .after) in
+    took _ _ _ _ _ refl (g .after) in
     let q = ltb-true (length before + k) (length entries) (p .0) in
     let l : k < m = omega (arith, simp (length-append, length-replicate) at q) in
     one-found s n at m k before xs (g .next) next l w
@@ -196,7 +196,7 @@ unfolding listed
 list-writes s size at xs next b e =
     let g : Went (numberAt s at) (onCount s size at) xs next = went _ _ _ _ (sym (list-steps s size at) ∙ e) in
     let w : NumberWrites s at (g .value) (g .next) = number-writes s at (g .value) (g .next) b (g .before) in
-    let p : (leb (g .value) size ≡ true) × (entriesAt s (g .value) 0 (g .next) (replicate size 0) ≡ done xs next) = passed _ _ _ _ _ (λ x. x) (g .after) in
+    let p : (leb (g .value) size ≡ true) × (entriesAt s (g .value) 0 (g .next) (replicate size 0) ≡ done xs next) = took _ _ _ _ _ refl (g .after) in
     let r : Found s (g .value) (g .next) size [] xs next = entries-found (g .value) s (g .next) size [] xs next b (w .inside) (p .1) in
     let form : listed xs ≡ written (g .value) ++ skips 0 (r .found) =
     ap listed (r .entries) ∙ ap (λ (n : ℕ). written n ++ skips 0 (r .found)) (r .count) in

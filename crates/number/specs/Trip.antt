@@ -9,7 +9,7 @@ use lib.Dec.{ltb, leb, eqb}
 use lib.ListN.{length, drop, getD}
 use borrow.Author.Tests.{lt-ltb, le-leb, ne-eqb, ltb-true, ltb-false, leb-true, leb-false, eqb-false}
 use Rattle.refusal.specs.Answer.{Answer, done, refused, refusedAt}
-use Rattle.refusal.specs.Done.{is-done}
+use Rattle.refusal.specs.Done.{never}
 use Rattle.refusal.specs.Ends.{NoEnd, no-end-test}
 use Rattle.refusal.specs.Bytes.{Bytes, Next, next-is, next-of, part-inside}
 use Rattle.number.specs.Number.{written, groupAt, lastGroup, numberAt, largest, most}
@@ -110,8 +110,8 @@ module _ (s : List ℕ) (first weight sum at n next : ℕ) (inside : at < length
           pos-of-ne-zero (eqb-false (getD s at 0) 0 q)
 
       go : (empty small : Bool) → (ltb 1 weight && eqb (getD s at 0) 0) ≡ empty → leb (sum + weight * getD s at 0) largest ≡ small → Stands s at weight sum n next
-      go true small p q = absurd (is-done (sym (last-nothing first weight sum (getD s at 0) (at + 1) p) ∙ e))
-      go false false p q = absurd (is-done (sym (last-large first weight sum (getD s at 0) (at + 1) p (leb-false _ _ q)) ∙ e))
+      go true small p q = absurd (never (sym (last-nothing first weight sum (getD s at 0) (at + 1) p) ∙ e) refl)
+      go false false p q = absurd (never (sym (last-large first weight sum (getD s at 0) (at + 1) p (leb-false _ _ q)) ∙ e) refl)
       go false true p q =
           let l = leb-true (sum + weight * getD s at 0) largest q in
           let d : done (sum + weight * getD s at 0) (at + 1) ≡ done n next = sym (last-value first weight sum (getD s at 0) (at + 1) p l) ∙ e in
@@ -145,7 +145,7 @@ module _ (s : List ℕ) (first weight sum at n next : ℕ) (inside : at < length
 
 groups-stand : (left : ℕ) (s : List ℕ) (first weight sum at n next : ℕ) → Bytes s → 0 < weight → groupAt s first left weight sum at ≡ done n next
     → Stands s at weight sum n next
-groups-stand zero s first weight sum at n next b w e = absurd (is-done (sym (group-none s first weight sum at) ∙ e))
+groups-stand zero s first weight sum at n next b w e = absurd (never (sym (group-none s first weight sum at) ∙ e) refl)
 groups-stand (suc left) s first weight sum at n next b w e =
     go (ltb at (length s)) refl (ltb (getD s at 0) 128) refl
     (groups-stand left s first (weight * 128) (sum + weight * (getD s at 0 - 128)) (at + 1) n next b (omega arith))
@@ -154,7 +154,7 @@ groups-stand (suc left) s first weight sum at n next b w e =
         → (groupAt s first left (weight * 128) (sum + weight * (getD s at 0 - 128)) (at + 1) ≡ done n next
         → Stands s (at + 1) (weight * 128) (sum + weight * (getD s at 0 - 128)) n next)
         → Stands s at weight sum n next
-    go false p isLast q others = absurd (is-done (sym (group-cut s first (suc left) weight sum at (omega arith) (ltb-false at (length s) p)) ∙ e))
+    go false p isLast q others = absurd (never (sym (group-cut s first (suc left) weight sum at (omega arith) (ltb-false at (length s) p)) ∙ e) refl)
     go true p true q others =
         let i = ltb-true at (length s) p in
         let x = ltb-true (getD s at 0) 128 q in
@@ -177,7 +177,7 @@ pub number-writes : (s : List ℕ) (at n next : ℕ) → Bytes s → numberAt s 
 number-writes s at n next b e = go (leb at (length s)) refl
   where
     go : (isIn : Bool) → leb at (length s) ≡ isIn → NumberWrites s at n next
-    go false p = absurd (is-done (sym (number-past s at (leb-false at (length s) p)) ∙ e))
+    go false p = absurd (never (sym (number-past s at (leb-false at (length s) p)) ∙ e) refl)
     go true p =
         let r : Stands s at 1 0 n next = groups-stand most s at 1 0 at n next b (omega arith) (sym (number-in s at (leb-true at (length s) p)) ∙ e) in
         let m : r .number ≡ n = omega (arith, r .value) in

@@ -6,7 +6,7 @@ use mathlib.Core.Bool.{Bool, true, false, _&&_}
 use mathlib.Core.List.{List, _++_, append-assoc}
 use lib.ListN.{length, drop, length-append}
 use Rattle.refusal.specs.Answer.{done, refused, andThen}
-use Rattle.refusal.specs.Done.{Went, went, passed}
+use Rattle.refusal.specs.Done.{Went, went, took}
 use Rattle.refusal.specs.Ends.{NoEnd, no-end-then, no-end-test}
 use Rattle.refusal.specs.Bytes.{Bytes}
 use Rattle.refusal.specs.Filling.{drop-part}
@@ -61,10 +61,10 @@ unfolding header
 header-writes s at sh next b e =
     let g : Went (numberAt s at) (onHeight s) sh next = went _ _ _ _ (sym (header-steps s at) ∙ e) in
     let h : ℕ = g .value in
-    let p : (heightOk h ≡ true) × (andThen (numberAt s (g .next)) (onDistance h) ≡ done sh next) = passed _ _ _ _ _ (λ x. x) (g .after) in
+    let p : (heightOk h ≡ true) × (andThen (numberAt s (g .next)) (onDistance h) ≡ done sh next) = took _ _ _ _ _ refl (g .after) in
     let g′ : Went (numberAt s (g .next)) (onDistance h) sh next = went _ _ _ _ (p .1) in
     let d : ℕ = g′ .value in
-    let p′ : (distanceOk d ≡ true) × (done (record { height = h; distance = d }) (g′ .next) ≡ done sh next) = passed _ _ _ _ _ (λ x. x) (g′ .after) in
+    let p′ : (distanceOk d ≡ true) × (done (record { height = h; distance = d }) (g′ .next) ≡ done sh next) = took _ _ _ _ _ refl (g′ .after) in
     let w : NumberWrites s at h (g .next) = number-writes s at h (g .next) b (g .before) in
     let w′ : NumberWrites s (g .next) d (g′ .next) = number-writes s (g .next) d (g′ .next) b (g′ .before) in
     let o : Shape = record { height = h; distance = d } in

@@ -9,7 +9,7 @@ use lib.Dec.{ltb}
 use lib.ListN.{length, drop, length-append}
 use borrow.Author.Tests.{ltb-true, ltb-false}
 use Rattle.refusal.specs.Answer.{Answer, done, ended, andThen}
-use Rattle.refusal.specs.Done.{Went, went, passed}
+use Rattle.refusal.specs.Done.{Went, went, took}
 use Rattle.refusal.specs.Ends.{NoEnd, no-end, no-end-then}
 use Rattle.refusal.specs.Bytes.{Bytes, part-inside}
 use Rattle.refusal.specs.Filling.{drop-part}
@@ -45,7 +45,7 @@ kind read write fits trips noEnd = record {
         let l = trips .some r in
         let i = part-inside s at (write r) rest l e in
         before-end s at (read s sh at) (omega arith) ∙ trips .reads s sh at r rest range f e;
-    writes = λ s sh at r next b e. trips .writes s sh at r next b (passed (ltb at (length s)) (read s sh at) ended r next (λ x. x) e .1);
+    writes = λ s sh at r next b e. trips .writes s sh at r next b (took (ltb at (length s)) (read s sh at) ended r next refl e .1);
     some = trips .some;
   };
   ends = λ s sh at h. at-end s at (read s sh at) h;

@@ -5,7 +5,7 @@ use mathlib.Core.Path.{_≡_, refl, sym, _∙_, ap, subst₂}
 use mathlib.Core.List.{List, [], _∷_, _++_}
 use lib.ListN.{length, drop, length-append, length-drop, drop-of-length-le}
 use Rattle.refusal.specs.Answer.{Answer, done, ended, refused, refusedAt, andThen}
-use Rattle.refusal.specs.Done.{goes-on, Went, went, is-done}
+use Rattle.refusal.specs.Done.{goes-on, Went, went, never}
 use Rattle.refusal.specs.Ends.{NoEnd, no-end, no-end-then}
 use Rattle.refusal.specs.Bytes.{Bytes, part-inside, at-end}
 use Rattle.refusal.specs.Filling.{drop-part}
@@ -141,7 +141,7 @@ module _ {A : Type 0} (read : List ℕ → Shape → ℕ → Answer A) (write : 
   records-write : (s : List ℕ) (sh : Shape) → Bytes s → (n at : ℕ) (rs : List A) (end : ℕ) → at ≤ length s → recordsAt (read s sh) n at ≡ done rs end
       → RecordsWrite write fits s sh at rs end
   unfolding recordsAt allBytes
-  records-write s sh b zero at rs end l e = absurd (is-done e)
+  records-write s sh b zero at rs end l e = absurd (never e refl)
   records-write s sh b (suc n) at rs end l e = go (read s sh at) refl (records-write s sh b n)
     where
       step : (a : Answer A) → read s sh at ≡ a → onRecord (read s sh) n at a ≡ done rs end
@@ -165,8 +165,8 @@ module _ {A : Type 0} (read : List ℕ → Shape → ℕ → Answer A) (write : 
           let last : at ≡ end = cc in
           subst₂ (λ (x : List A) (i : ℕ). RecordsWrite write fits s sh at x i) same last
           (record { bytes = drop-of-length-le s p; right = tt; whole = omega arith })
-      go (refused i) q others = absurd (is-done (step (refused i) q))
-      go (refusedAt i o) q others = absurd (is-done (step (refusedAt i o) q))
+      go (refused i) q others = absurd (never (step (refused i) q) refl)
+      go (refusedAt i o) q others = absurd (never (step (refusedAt i o) q) refl)
 
   pub stream-writes : (s : List ℕ) (t : Stream A) (end : ℕ) → Bytes s → streamOf read s ≡ done t end → (bytesOf write t ≡ s) × Fits fits t × (end ≡ length s)
   unfolding bytesOf

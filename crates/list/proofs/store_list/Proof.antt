@@ -9,7 +9,7 @@ use borrow.Author.Tests.{ltb-true, ltb-false}
 use lib.Dec.{ltb}
 use lib.ListN.{length, set, replicate, length-set, length-replicate}
 use Rattle.refusal.specs.Answer.{Answer, done, refusedAt, passed, isDone, valueOr, itself}
-use Rattle.refusal.specs.Laws.{turned-not, done-passed}
+use Rattle.refusal.specs.Laws.{turned-not, done-passed, undone}
 use Rattle.refusal.specs.declared.Refusal.{Refusal}
 use Rattle.number.specs.Number.{numberAt, told}
 use Rattle.number.specs.declared.Read.{Read}
@@ -20,12 +20,12 @@ use Rattle.list.proofs.store_list.Statement.{statement}
 use Rattle.list.proofs.store_list.Tie as tie
 
 apart : (b : Bool) → b ≡ true → b ≡ false → ⊥
-apart b p q = let z : _≡_ {A = ℕ} 0 1 = cc in omega arith
+apart b p q = undone (sym p ∙ q)
 
 -- a number that was not read leaves nothing done
-undone : (src : List ℕ) (at : ℕ) (r : Read) (f : Refusal) (whole : Answer (List ℕ)) → told r ≡ numberAt src at → r ≡ Refused f
+unreadable : (src : List ℕ) (at : ℕ) (r : Read) (f : Refusal) (whole : Answer (List ℕ)) → told r ≡ numberAt src at → r ≡ Refused f
     → (isDone (numberAt src at) ≡ false → passed whole ≡ passed (numberAt src at)) → isDone whole ≡ true → ⊥
-undone src at r f whole e k turned h =
+unreadable src at r f whole e k turned h =
     let no' : isDone (numberAt src at) ≡ false = ap (λ (a : Answer ℕ). isDone a) (sym e ∙ ap told k) ∙ turned-not ℕ f in
     apart (isDone whole) h (sym (done-passed whole) ∙ ap (λ (a : Answer (Unit {0})). isDone a) (turned no') ∙ done-passed (numberAt src at) ∙ no')
 
@@ -36,7 +36,7 @@ Storing src at size out left next from = (entriesAt src left from next out ≡ l
 module _ (src : List ℕ) (at size : ℕ) (out : List ℕ) (left next from : ℕ) (w : Storing src at size out left next from) (l : 0 < left) where
   unread : (r : Read) (f : Refusal) → told r ≡ numberAt src next → r ≡ Refused f → ⊥
   unread r f e k =
-      undone src next r f (listAt src size at) e k
+      unreadable src next r f (listAt src size at) e k
       (λ n. ap (λ (a : Answer (List ℕ)). passed a) (sym (w .0)) ∙ entries-turned src left from next out l n)
       (w .1)
 
@@ -99,7 +99,7 @@ returns c =
     let s = c .before .before .before .before .before .before .before .before .before in
     let a = s .args in
     let r = c .before .before .read-number in
-    absurd (undone (a .src .now) (a .at) (r .result) (c .enum-told .given .0 .0) (listAt (a .src .now) (length (a .out .now)) (a .at)) (r .ensures) (c .enum-told .given .1) (list-turned (a .src .now) (length (a .out .now)) (a .at)) (s .pre))
+    absurd (unreadable (a .src .now) (a .at) (r .result) (c .enum-told .given .0 .0) (listAt (a .src .now) (length (a .out .now)) (a .at)) (r .ensures) (c .enum-told .given .1) (list-turned (a .src .now) (length (a .out .now)) (a .at)) (s .pre))
 
 cast-rest : tie.Need-cast-rest Inv-loop μ-loop
 cast-rest c = search needs
