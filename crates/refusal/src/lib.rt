@@ -25,6 +25,12 @@ pub enum Refusal {
     Offset,
     // The record is longer than the rest of the buffer.
     Room,
+    // The window is not well-formed.
+    NotWellFormed,
+    // The window is in another stage.
+    WrongStage,
+    // The next round's number is the last that 32 bits can hold.
+    LastRound,
 }
 
 // The document's number of a refusal.
@@ -43,6 +49,9 @@ pub fn number(f: Refusal) -> u8
         Refusal::Entry(_) => 9,
         Refusal::Offset => 10,
         Refusal::Room => 11,
+        Refusal::NotWellFormed => 21,
+        Refusal::WrongStage => 22,
+        Refusal::LastRound => 23,
     }
 }
 
@@ -62,5 +71,8 @@ pub fn place_or(f: Refusal, other: usize) -> usize
         Refusal::Entry(at) => at,
         Refusal::Offset => other,
         Refusal::Room => other,
+        Refusal::NotWellFormed => other,
+        Refusal::WrongStage => other,
+        Refusal::LastRound => other,
     }
 }

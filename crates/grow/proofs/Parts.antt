@@ -1,0 +1,111 @@
+-- What an edge gains and when a node is cut, by the tests that the code makes. Assumes nothing.
+use Prim.Native.Nat.{ℕ, zero, suc, _+_, _-_, _*_, _/_, _%_, _≤_, _<_, min}
+use native.Mathlib.Nat.{mul-comm}
+use native.Mathlib.Omega.{arith}
+use mathlib.Core.Path.{_≡_, refl, sym, _∙_, ap, subst}
+use mathlib.Core.Bool.{Bool, true, false, _&&_}
+use mathlib.Core.List.{List}
+use borrow.Author.Tests.{eq-eqb, ne-eqb}
+use lib.Dec.{eqb}
+use lib.ListN.{length, getD, set}
+use Rattle.shape.specs.Choice.{if, if-true, if-false}
+use Rattle.shape.specs.Sizes.{sheetsOf, nodesOf}
+use Rattle.shape.specs.Ranges.{Ranged}
+use Rattle.walk.specs.LawsWalk.{slot-node, slot-kind}
+use Rattle.shape.specs.Nodes.{placeAt}
+use Rattle.shape.specs.Steps.{base}
+use Rattle.shape.specs.declared.Place.{Place}
+use Rattle.window.specs.Lists.{bit, over}
+use Rattle.window.specs.LawsLists.{over-three, over-next}
+use Rattle.window.specs.Window.{beyond, falls, naming, namer, size, at, place, reach}
+use Rattle.window.specs.Grow.{gains, cut, grownSlot, grownNode, grown}
+use Rattle.window.specs.declared.Stage.the-variants.{Merging}
+use Rattle.window.specs.declared.Node.{Node}
+use Rattle.window.specs.declared.Way.{Way}
+use Rattle.window.specs.declared.Window.{Window}
+
+-- AN EDGE
+
+module _ (r : Way) (old : ℕ) (here other : Node) where
+  pub gains-none : r .there ≡ false → old ≡ gains r old here other
+  gains-none e = rw e
+
+  pub gains-full : r .there ≡ true → 2 ≤ old → 2 ≡ gains r old here other
+  gains-full e l = rw e (omega arith)
+
+  module _ (a b : ℕ) (p : a ≡ bit (here .active)) (q : b ≡ bit (other .active)) (e : r .there ≡ true) where
+    pub gains-capped : 2 ≤ old + a + b → 2 ≡ gains r old here other
+    gains-capped l = rw (e, ← p, ← q) (omega arith)
+
+    pub gains-sum : old + a + b < 2 → old + a + b ≡ gains r old here other
+    gains-sum l = rw (e, ← p, ← q) (omega arith)
+
+pub bit-low : (b : Bool) → bit b ≤ 1
+bit-low true = omega arith
+bit-low false = omega arith
+
+-- A NODE
+
+pub falls-five : (p : ℕ) → falls base p ≡ eqb p 5
+unfolding base
+falls-five zero = refl
+falls-five (suc zero) = refl
+falls-five (suc (suc zero)) = refl
+falls-five (suc (suc (suc zero))) = refl
+falls-five (suc (suc (suc (suc zero)))) = refl
+falls-five (suc (suc (suc (suc (suc zero))))) = refl
+falls-five (suc (suc (suc (suc (suc (suc zero)))))) = refl
+falls-five (suc (suc (suc (suc (suc (suc (suc p))))))) = sym (ne-eqb (suc (suc (suc (suc (suc (suc (suc p))))))) 5 (λ e. omega arith))
+
+module _ (d depth s : ℕ) (n : Node) (e : s ≡ sheetsOf d) where
+  tested : (eqb (depth + 1) s && eqb (n .pointer) 5) ≡ (eqb (depth + 1) (sheetsOf d) && falls base (n .pointer))
+  tested = rw (e, falls-five (n .pointer))
+
+  pub cut-yes : eqb (depth + 1) s && eqb (n .pointer) 5 ≡ true → cut n ≡ if (eqb (depth + 1) (sheetsOf d) && falls base (n .pointer)) (cut n) n
+  cut-yes t = sym (if-true _ (cut n) n (sym tested ∙ t))
+
+  pub cut-no : eqb (depth + 1) s && eqb (n .pointer) 5 ≡ false → n ≡ if (eqb (depth + 1) (sheetsOf d) && falls base (n .pointer)) (cut n) n
+  cut-no t = sym (if-false _ (cut n) n (sym tested ∙ t))
+
+-- A TURN OF THE LOOP
+
+module _ (w : Window) (g : ℕ) where
+  pub node-by : (q : Place) (x n : Node) → q ≡ place w g → n ≡ at w g
+      → x ≡ if (eqb (q .depth + 1) (sheetsOf (w .shape .distance)) && falls base (n .pointer)) (cut n) n → x ≡ grownNode base w g
+  unfolding grownNode
+  node-by q x n e f z = z ∙ rw (e, f)
+
+  pub slot-by : (kind p e v : ℕ) (q : Place) (r : Way) (n m : Node) → kind < 3 → e ≡ 3 * g + kind → namer base kind ≡ p → q ≡ place w g
+      → r ≡ reach base (w .shape .height) (w .shape .distance) (sheetsOf (w .shape .distance)) p q → n ≡ at w g → m ≡ at w (r .node)
+      → v ≡ gains r (getD (w .growth) e 0) n m → v ≡ grownSlot base w e
+  unfolding grownSlot base
+  slot-by kind p e v q r n m l y z x f a b t =
+      let i : e / 3 ≡ g = ap (λ (j : ℕ). j / 3) y ∙ slot-node g kind l in
+      let k : e % 3 ≡ kind = ap (λ (j : ℕ). j % 3) y ∙ slot-kind g kind l in
+      t ∙ rw (i, k, z, b, a, f, x)
+
+pub named-0 : namer base 0 ≡ 3
+unfolding base naming
+named-0 = refl
+
+pub named-1 : namer base 1 ≡ 4
+unfolding base naming
+named-1 = refl
+
+pub named-2 : namer base 2 ≡ 6
+unfolding base naming
+named-2 = refl
+
+-- its three slots
+pub three : (w : Window) (g : ℕ) (now : List ℕ) (a b c : ℕ) → 3 * g + 2 < length (w .growth) → now ≡ over (3 * g) (grownSlot base w) (w .growth)
+    → a ≡ grownSlot base w (3 * g) → b ≡ grownSlot base w (3 * g + 1) → c ≡ grownSlot base w (3 * g + 2)
+    → set (set (set now (3 * g) a) (3 * g + 1) b) (3 * g + 2) c ≡ over (3 * (g + 1)) (grownSlot base w) (w .growth)
+three w g now a b c l e p q r =
+    let z : 3 * g + 3 ≡ 3 * (g + 1) = omega arith in
+    rw z at (over-three (grownSlot base w) (w .growth) (3 * g) now a b c l e p q r)
+
+-- all of them
+pub finished : (w : Window) (g : ℕ) (nodes : List Node) (growth : List ℕ) → g ≡ size w → nodes ≡ over g (grownNode base w) (w .nodes) → growth ≡ over (3 * g) (grownSlot base w) (w .growth)
+    → _≡_ {A = Window} (record { shape = w .shape; stage = Merging; next = w .next; nodes = nodes; growth = growth; correction = w .correction }) (grown base w)
+unfolding grown base
+finished w g nodes growth z e f = rw (e, f, z)

@@ -1,0 +1,37 @@
+use mathlib.Core.Path.{_≡_, refl, sym, _∙_, ap}
+use mathlib.Core.Logic.{⊎-elim}
+use mathlib.Core.Bool.{Bool, true, false}
+use Prim.Native.Nat.{ℕ, _≤_, _<_, _-_, _+_, _*_}
+use native.Mathlib.Omega.{arith}
+use borrow.Author.Needs.{needs}
+use borrow.Author.Tests.{lt-ltb, le-ltb, le-leb, lt-leb, eq-eqb, ne-eqb, not-true, not-false}
+use lib.ListN.{length, drop, getD, set, length-map, length-set}
+use Rattle.grow.proofs.cut_down.Statement.{statement}
+use Rattle.grow.proofs.cut_down.Tie as tie
+use Rattle.grow.proofs.cut_down.Reads as reads
+use Rattle.grow.proofs.cut_down.Lts as lts
+use Rattle.shape.proofs.sheets.Reads as sheets-reads
+use Rattle.grow.proofs.Parts.{cut-yes, cut-no}
+
+-- src/lib.rt:50:9
+cast-if1 : tie.Need-cast-if1
+cast-if1 c = search needs
+
+-- src/lib.rt:50:9
+add-if1 : tie.Need-add-if1
+add-if1 c = search needs
+
+-- src/lib.rt:50:37
+sheets-requires : tie.Need-sheets-requires
+sheets-requires c κs = search needs
+
+-- src/lib.rt:51:9
+returns : tie.Need-returns
+returns c = cut-yes (c .before .before .before .before .args .shape .distance) (c .before .before .before .before .args .place .depth) _ (c .before .before .before .before .args .node) (c .before .before .sheets .ensures) (c .if1 .taken)
+
+-- src/lib.rt:47:1
+returns-2 : tie.Need-returns-2
+returns-2 c = cut-no (c .before .before .before .before .args .shape .distance) (c .before .before .before .before .args .place .depth) _ (c .before .before .before .before .args .node) (c .before .before .sheets .ensures) (c .if1 .left)
+
+pub cut-down-spec : {M : Type 1} → statement M
+cut-down-spec = tie.close (tie.spec cast-if1 add-if1 sheets-requires returns returns-2)

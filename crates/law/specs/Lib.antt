@@ -1,0 +1,12 @@
+pub mod Lists
+pub mod Sized
+pub mod Suited
+pub mod Facts
+pub mod Fresh
+pub mod Grow
+pub mod Scan
+pub mod Merging
+pub mod Run
+pub mod Lower
+pub mod Round
+pub mod Closure

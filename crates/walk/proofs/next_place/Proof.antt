@@ -1,0 +1,54 @@
+use mathlib.Core.Path.{_≡_, refl, sym, _∙_, ap}
+use mathlib.Core.Logic.{⊎-elim}
+use mathlib.Core.Bool.{Bool, true, false}
+use Prim.Native.Nat.{ℕ, _≤_, _<_, _-_, _+_, _*_}
+use native.Mathlib.Omega.{arith}
+use borrow.Author.Needs.{needs}
+use borrow.Author.Tests.{lt-ltb, le-ltb, le-leb, lt-leb, eq-eqb, ne-eqb, not-true, not-false}
+use lib.ListN.{length, drop, getD, set, length-map, length-set}
+use Rattle.walk.proofs.next_place.Statement.{statement}
+use Rattle.walk.proofs.next_place.Tie as tie
+use Rattle.walk.proofs.next_place.Reads as reads
+use Rattle.walk.proofs.next_place.Lts as lts
+use Rattle.walk.specs.LawsWalk.{after-column, after-row, after-sheet}
+
+-- src/lib.rt:24:21
+add-t4 : tie.Need-add-t4
+add-t4 c = search needs
+
+-- src/lib.rt:21:9
+returns : tie.Need-returns
+returns c = after-column (c .before .before .before .before .args .shape .height) (c .before .before .before .before .args .shape .distance) (c .before .before .before .before .args .place) (c .before .if1 .taken)
+
+-- src/lib.rt:27:9
+cast-if2 : tie.Need-cast-if2
+cast-if2 c = search needs
+
+-- src/lib.rt:27:8
+add-if2 : tie.Need-add-if2
+add-if2 c = search needs
+
+-- src/lib.rt:27:35
+cast-if2-2 : tie.Need-cast-if2-2
+cast-if2-2 c = search needs
+
+-- src/lib.rt:30:18
+add-t8 : tie.Need-add-t8
+add-t8 c = search needs
+
+-- src/lib.rt:28:9
+returns-2 : tie.Need-returns-2
+returns-2 c = after-row (c .before .before .before .before .before .before .before .args .shape .height) (c .before .before .before .before .before .before .before .args .shape .distance) (c .before .before .before .before .before .before .before .args .place) (c .before .before .before .before .if1 .left) (c .before .if2 .taken)
+
+-- src/lib.rt:35:16
+add-t9 : tie.Need-add-t9
+add-t9 c = search needs
+
+-- src/lib.rt:16:1
+returns-3 : tie.Need-returns-3
+returns-3 c = after-sheet (c .before .before .before .before .before .before .before .args .shape .height) (c .before .before .before .before .before .before .before .args .shape .distance) (c .before .before .before .before .before .before .before .args .place) (c .before .before .before .before .if1 .left) (c .before .if2 .left)
+
+pub next-place-spec : {M : Type 1} → statement M
+next-place-spec =
+    tie.close
+    (tie.spec add-t4 returns cast-if2 add-if2 cast-if2-2 add-t8 returns-2 add-t9 returns-3)

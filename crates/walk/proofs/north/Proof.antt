@@ -1,0 +1,62 @@
+use mathlib.Core.Path.{_≡_, refl, sym, _∙_, ap}
+use mathlib.Core.Logic.{⊎-elim}
+use mathlib.Core.Bool.{Bool, true, false}
+use Prim.Native.Nat.{ℕ, _≤_, _<_, _-_, _+_, _*_}
+use native.Mathlib.Omega.{arith}
+use borrow.Author.Needs.{needs}
+use borrow.Author.Tests.{lt-ltb, le-ltb, le-leb, lt-leb, eq-eqb, ne-eqb, not-true, not-false}
+use lib.ListN.{length, drop, getD, set, length-map, length-set}
+use Rattle.walk.proofs.north.Statement.{statement}
+use Rattle.walk.proofs.north.Tie as tie
+use Rattle.walk.proofs.north.Reads as reads
+use Rattle.walk.proofs.north.Lts as lts
+use Rattle.walk.proofs.inner.Reads as inner-reads
+use Rattle.walk.proofs.no_edge.Reads as no-edge-reads
+use Rattle.walk.proofs.over.Reads as over-reads
+use Rattle.walk.specs.LawsWalk.{stands-low}
+use Rattle.walk.specs.Ways.{north-none, north-index, north-way, no-test, a-test}
+
+-- src/lib.rt:82:10
+inner-requires : tie.Need-inner-requires
+inner-requires c κs = search needs
+
+-- src/lib.rt:83:9
+no-edge-requires : tie.Need-no-edge-requires
+no-edge-requires c κs = search needs
+
+-- src/lib.rt:83:9
+returns : tie.Need-returns
+returns c = c .no-edge .ensures ∙ north-none _ _ _ _ (c .before .before .before .before .pre) (no-test _ _ _ (c .before .before .before .inner .ensures) (c .before .if1 .taken))
+
+-- src/lib.rt:85:19
+cast-to : tie.Need-cast-to
+cast-to c = search needs
+
+-- src/lib.rt:85:19
+add-to : tie.Need-add-to
+add-to c = search needs
+
+-- src/lib.rt:85:14
+sub-to : tie.Need-sub-to
+sub-to c = omega (arith, north-index _ _ _ _ (c .before .before .before .before .pre) (a-test _ _ _ (c .before .before .before .inner .ensures) (c .before .if1 .left)))
+
+-- src/lib.rt:86:5
+over-requires : tie.Need-over-requires
+over-requires c κs = (omega (arith, stands-low _ _ _ _ (c .before .before .before .before .pre)), omega arith)
+
+-- src/lib.rt:78:1
+returns-2 : tie.Need-returns-2
+returns-2 c = c .over .ensures ∙ north-way _ _ _ _ (c .before .before .before .before .before .pre) (a-test _ _ _ (c .before .before .before .before .inner .ensures) (c .before .before .if1 .left))
+
+pub north-spec : {M : Type 1} → statement M
+north-spec =
+    tie.close
+    (tie.spec
+    inner-requires
+    no-edge-requires
+    returns
+    cast-to
+    add-to
+    sub-to
+    over-requires
+    returns-2)

@@ -1,0 +1,98 @@
+use mathlib.Core.Path.{_≡_, refl, sym, _∙_, ap}
+use mathlib.Core.Logic.{⊎-elim}
+use mathlib.Core.Bool.{Bool, true, false}
+use Prim.Native.Nat.{ℕ, _≤_, _<_, _-_, _+_, _*_}
+use native.Mathlib.Omega.{arith}
+use borrow.Author.Needs.{needs}
+use borrow.Author.Tests.{lt-ltb, le-ltb, le-leb, lt-leb, eq-eqb, ne-eqb, not-true, not-false}
+use lib.ListN.{length, drop, getD, set, length-map, length-set}
+use Rattle.walk.proofs.reach.Statement.{statement}
+use Rattle.walk.proofs.reach.Tie as tie
+use Rattle.walk.proofs.reach.Reads as reads
+use Rattle.walk.proofs.reach.Lts as lts
+use Rattle.walk.proofs.down.Reads as down-reads
+use Rattle.walk.proofs.east.Reads as east-reads
+use Rattle.walk.proofs.no_edge.Reads as no-edge-reads
+use Rattle.walk.proofs.north.Reads as north-reads
+use Rattle.walk.proofs.south.Reads as south-reads
+use Rattle.walk.proofs.up.Reads as up-reads
+use Rattle.walk.proofs.west.Reads as west-reads
+use Rattle.shape.specs.Sizes.{sheetsOf}
+use Rattle.shape.specs.Steps.{base}
+use Rattle.window.specs.Window.{reach}
+use Rattle.walk.specs.Ways.{other-none, stays-put}
+
+-- src/lib.rt:147:14
+north-requires : tie.Need-north-requires
+north-requires c κs = search needs
+
+-- src/lib.rt:148:14
+west-requires : tie.Need-west-requires
+west-requires c κs = search needs
+
+-- src/lib.rt:149:14
+east-requires : tie.Need-east-requires
+east-requires c κs = search needs
+
+-- src/lib.rt:150:14
+south-requires : tie.Need-south-requires
+south-requires c κs = search needs
+
+-- src/lib.rt:151:14
+down-requires : tie.Need-down-requires
+down-requires c κs = search needs
+
+-- src/lib.rt:152:14
+up-requires : tie.Need-up-requires
+up-requires c κs = search needs
+
+-- src/lib.rt:153:14
+no-edge-requires : tie.Need-no-edge-requires
+no-edge-requires c κs = search needs
+
+-- src/lib.rt:142:1
+returns : tie.Need-returns
+returns c = c .north .ensures ∙ ap (λ (p : ℕ). reach base (c .before .before .args .shape .height) (c .before .before .args .shape .distance) (sheetsOf (c .before .before .args .shape .distance)) p (c .before .before .args .place)) (sym (c .before .match .keys1))
+
+-- src/lib.rt:142:1
+returns-2 : tie.Need-returns-2
+returns-2 c = c .west .ensures ∙ ap (λ (p : ℕ). reach base (c .before .before .args .shape .height) (c .before .before .args .shape .distance) (sheetsOf (c .before .before .args .shape .distance)) p (c .before .before .args .place)) (sym (c .before .match .keys2))
+
+-- src/lib.rt:142:1
+returns-3 : tie.Need-returns-3
+returns-3 c = c .east .ensures ∙ ap (λ (p : ℕ). reach base (c .before .before .args .shape .height) (c .before .before .args .shape .distance) (sheetsOf (c .before .before .args .shape .distance)) p (c .before .before .args .place)) (sym (c .before .match .keys3))
+
+-- src/lib.rt:142:1
+returns-4 : tie.Need-returns-4
+returns-4 c = c .south .ensures ∙ ap (λ (p : ℕ). reach base (c .before .before .args .shape .height) (c .before .before .args .shape .distance) (sheetsOf (c .before .before .args .shape .distance)) p (c .before .before .args .place)) (sym (c .before .match .keys4))
+
+-- src/lib.rt:142:1
+returns-5 : tie.Need-returns-5
+returns-5 c = c .down .ensures ∙ ap (λ (p : ℕ). reach base (c .before .before .args .shape .height) (c .before .before .args .shape .distance) (sheetsOf (c .before .before .args .shape .distance)) p (c .before .before .args .place)) (sym (c .before .match .keys5))
+
+-- src/lib.rt:142:1
+returns-6 : tie.Need-returns-6
+returns-6 c = c .up .ensures ∙ ap (λ (p : ℕ). reach base (c .before .before .args .shape .height) (c .before .before .args .shape .distance) (sheetsOf (c .before .before .args .shape .distance)) p (c .before .before .args .place)) (sym (c .before .match .keys6))
+
+-- src/lib.rt:142:1
+returns-7 : tie.Need-returns-7
+returns-7 c = c .no-edge .ensures ∙ other-none (c .before .before .args .shape .height) (c .before .before .args .shape .distance) (c .before .before .args .place) (c .before .before .args .g) (c .before .before .pre) (c .before .before .args .pointer) (stays-put (c .before .before .args .pointer) (c .before .match .rest .0 .0 .0 .0 .0 .1) (c .before .match .rest .0 .0 .0 .0 .1) (c .before .match .rest .0 .0 .0 .1) (c .before .match .rest .0 .0 .1) (c .before .match .rest .0 .1) (c .before .match .rest .1))
+
+pub reach-spec : {M : Type 1} → statement M
+reach-spec =
+    tie.close
+    (tie.spec
+    north-requires
+    west-requires
+    east-requires
+    south-requires
+    down-requires
+    up-requires
+    no-edge-requires
+    returns
+    returns-2
+    returns-3
+    returns-4
+    returns-5
+    returns-6
+    returns-7)

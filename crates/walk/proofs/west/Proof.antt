@@ -1,0 +1,39 @@
+use mathlib.Core.Path.{_≡_, refl, sym, _∙_, ap}
+use mathlib.Core.Logic.{⊎-elim}
+use mathlib.Core.Bool.{Bool, true, false}
+use Prim.Native.Nat.{ℕ, _≤_, _<_, _-_, _+_, _*_}
+use native.Mathlib.Omega.{arith}
+use borrow.Author.Needs.{needs}
+use borrow.Author.Tests.{lt-ltb, le-ltb, le-leb, lt-leb, eq-eqb, ne-eqb, not-true, not-false}
+use lib.ListN.{length, drop, getD, set, length-map, length-set}
+use Rattle.walk.proofs.west.Statement.{statement}
+use Rattle.walk.proofs.west.Tie as tie
+use Rattle.walk.proofs.west.Reads as reads
+use Rattle.walk.proofs.west.Lts as lts
+use Rattle.walk.proofs.no_edge.Reads as no-edge-reads
+use Rattle.walk.proofs.over.Reads as over-reads
+use Rattle.walk.specs.LawsWalk.{stands-low}
+use Rattle.walk.specs.Ways.{west-none, west-index, west-way, pos}
+
+-- src/lib.rt:94:9
+no-edge-requires : tie.Need-no-edge-requires
+no-edge-requires c κs = search needs
+
+-- src/lib.rt:94:9
+returns : tie.Need-returns
+returns c = c .no-edge .ensures ∙ west-none _ _ _ _ (c .before .before .before .pre) (c .before .if1 .taken)
+
+-- src/lib.rt:96:14
+sub-to : tie.Need-sub-to
+sub-to c = let z : 0 < c .before .before .args .place .column = pos _ (c .if1 .left) in omega (arith, west-index _ _ _ _ (c .before .before .pre) z)
+
+-- src/lib.rt:97:5
+over-requires : tie.Need-over-requires
+over-requires c κs = (omega (arith, stands-low _ _ _ _ (c .before .before .before .pre)), omega arith)
+
+-- src/lib.rt:89:1
+returns-2 : tie.Need-returns-2
+returns-2 c = c .over .ensures ∙ west-way _ _ _ _ (c .before .before .before .before .pre) (pos _ (c .before .before .if1 .left))
+
+pub west-spec : {M : Type 1} → statement M
+west-spec = tie.close (tie.spec no-edge-requires returns sub-to over-requires returns-2)

@@ -1,0 +1,88 @@
+-- THE CALLS, refused ones too: what each answers and leaves, in document 01's numbers. Assumes nothing.
+use Prim.Native.Nat.{ℕ}
+use mathlib.Core.Bool.{Bool, not}
+use mathlib.Core.List.{List, [], _∷_}
+use lib.Dec.{ltb, eqb}
+use lib.ListN.{length}
+use Rattle.refusal.specs.Answer.{Answer, done, turned, unless, andThen, passed, valueOr}
+use Rattle.list.specs.Sheet.{areBits}
+use Rattle.shape.specs.Sizes.{shapeOf, detectorsOf, layerEdgesOf}
+use Rattle.shape.specs.Steps.{Table}
+use Rattle.window.specs.Window.{isRest, isToGrow, isMerging}
+use Rattle.window.specs.Fresh.{freshWindow}
+use Rattle.window.specs.Formed.{wellFormed}
+use Rattle.window.specs.Round.{rounded, committed, escaped}
+use Rattle.window.specs.Grow.{grown}
+use Rattle.window.specs.Merging.{merged}
+use Rattle.window.specs.Run.{Ran, ran}
+use Rattle.window.specs.declared.Window.{Window}
+use Rattle.window.specs.declared.Called.{Called}
+use Rattle.window.specs.declared.Called.the-variants as called
+
+-- THE ANSWERS
+
+abbrev pub told : Called → Answer (Unit {0})
+told called.Done = done tt 0
+told (called.Refused f) = turned f
+
+-- what a call answers, and the window after it
+pub record Answered (A : Type 0) : Type 0 where
+  pub answer : Answer A
+  pub window : Window
+
+abbrev pub given : {A : Type 0} → Answer A → Window → Answered A
+given a w = record { answer = a; window = w }
+
+-- the window that a call gives where it is done, and the one that it was given where not
+abbrev pub leaves : {A : Type 0} → Answer A → (A → Window) → Window → Answered (Unit {0})
+leaves a of w = given (passed a) (valueOr a of w)
+
+-- 1, 2
+unfoldable pub freshCall : ℕ → ℕ → Answer Window
+freshCall h d = andThen (shapeOf h d) (λ sh n. done (freshWindow sh) n)
+
+-- what a round call leaves
+pub record Round : Type 0 where
+  pub window : Window
+  pub edges : List ℕ
+  pub escapes : List ℕ
+
+abbrev pub windowOf : Round → Window
+windowOf r = r .window
+
+abbrev pub edgesOf : Round → List ℕ
+edgesOf r = r .edges
+
+abbrev pub escapesOf : Round → List ℕ
+escapesOf r = r .escapes
+
+module _ (T : Table) (w : Window) where
+  -- 21 before 22
+  abbrev pub stateTests : Bool → List (Bool × ℕ)
+  stateTests stage = (wellFormed T w, 21) ∷ (stage, 22) ∷ []
+
+  -- 21, 22, 23, 3, 5, 6, 4
+  abbrev pub roundTests : List ℕ → List ℕ → List ℕ → List (Bool × ℕ)
+  roundTests bytes edges escapes =
+      (wellFormed T w, 21)
+      ∷ (isRest (w .stage), 22)
+      ∷ (ltb (w .next) 4294967295, 23)
+      ∷ (eqb (length bytes) (detectorsOf (w .shape .height) (w .shape .distance)), 3)
+      ∷ (eqb (length edges) (layerEdgesOf (w .shape .height) (w .shape .distance)), 5)
+      ∷ (eqb (length escapes) (detectorsOf (w .shape .height) (w .shape .distance)), 6)
+      ∷ (areBits bytes, 4)
+      ∷ []
+
+  unfoldable pub roundCall : List ℕ → List ℕ → List ℕ → Answer Round
+  roundCall bytes edges escapes =
+      unless (roundTests bytes edges escapes)
+      (done (record { window = rounded T w bytes; edges = committed T w; escapes = escaped T w }) 0)
+
+  unfoldable pub growCall : Answer Window
+  growCall = unless (stateTests (isToGrow (w .stage))) (done (grown T w) 0)
+
+  unfoldable pub mergingCall : Answer Window
+  mergingCall = unless (stateTests (isMerging (w .stage))) (done (merged T w) 0)
+
+  unfoldable pub runCall : ℕ → Answer Ran
+  runCall budget = unless (stateTests (not (isRest (w .stage)))) (done (ran T budget w) 0)

@@ -1,0 +1,72 @@
+-- WELL-FORMED WINDOWS, as a test. Assumes nothing.
+use Prim.Native.Nat.{ℕ, _+_, _*_}
+use mathlib.Core.Bool.{Bool, _&&_, _||_, not}
+use lib.Dec.{ltb, leb, eqb}
+use lib.ListN.{getD, drop}
+use mathlib.Core.Bool.{false}
+use Rattle.shape.specs.Sizes.{sheetsOf, boundary, inRange, nodesIn}
+use Rattle.shape.specs.Steps.{Table}
+use Rattle.shape.specs.declared.Place.{Place}
+use Rattle.window.specs.Lists.{every, all}
+use Rattle.window.specs.Window.{isToGrow, isMerging, falls, namer, reach, size, at, place, to}
+use Rattle.window.specs.declared.Mark.{Mark}
+use Rattle.window.specs.declared.Mark.the-variants.{Reset, Root}
+use Rattle.window.specs.declared.Stage.{Stage}
+use Rattle.window.specs.declared.Node.{Node}
+use Rattle.window.specs.declared.Window.{Window}
+
+-- marks below h(d+1)(s+1), reset only in stage merging
+abbrev pub markFits : Stage → ℕ → Mark → Bool
+markFits stage numbers Reset = isMerging stage
+markFits stage numbers (Root m) = ltb m numbers
+
+abbrev pub isZero : Mark → Bool
+isZero Reset = false
+isZero (Root m) = eqb m 0
+
+-- unused entries zero: mark the number 0, pointer C
+abbrev pub unusedNode : Node → Bool
+unusedNode n = not (n .active) && not (n .defect) && not (n .unrooted) && eqb (n .pointer) 0 && isZero (n .mark)
+
+-- pointers along edges of the window, except that a bottom detector's may be D in stage to grow
+unfoldable pub pointerFits : Table → Stage → ℕ → ℕ → Place → ℕ → Bool
+pointerFits T stage h d q p =
+    eqb p 0
+    || reach T h d (sheetsOf d) p q .there
+    || isToGrow stage && eqb (q .depth + 1) (sheetsOf d) && not (boundary d (q .column)) && falls T p
+
+-- no defect on a boundary
+abbrev pub defectFits : ℕ → Place → Bool → Bool
+defectFits d q defect = not (boundary d (q .column) && defect)
+
+unfoldable pub nodeFits : Table → Stage → ℕ → ℕ → Place → Node → Bool
+nodeFits T stage h d q n =
+    markFits stage (nodesIn h d (sheetsOf d + 1)) (n .mark)
+    && pointerFits T stage h d q (n .pointer)
+    && defectFits d q (n .defect)
+
+abbrev pub isEmpty : ℕ → Bool
+isEmpty halves = eqb halves 0
+
+-- growth at most 2; a slot without an edge is unused
+abbrev pub slotFits : Bool → ℕ → Bool → Bool
+slotFits there halves correction = leb halves 2 && (there || isEmpty halves && not correction)
+
+module _ (T : Table) (w : Window) where
+  abbrev pub nodeFitsAt : ℕ → Bool
+  nodeFitsAt g = nodeFits T (w .stage) (w .shape .height) (w .shape .distance) (place w g) (at w g)
+
+  -- node g's own edge of a kind
+  unfoldable pub slotFitsAt : ℕ → ℕ → Bool
+  slotFitsAt g kind =
+      slotFits (to w T (namer T kind) g .there) (getD (w .growth) (T .kinds * g + kind) 0) (getD (w .correction) (T .kinds * g + kind) false)
+
+  unfoldable pub wellFormed : Bool
+  wellFormed =
+      inRange (w .shape .height) (w .shape .distance)
+      && leb (sheetsOf (w .shape .distance)) (w .next)
+      && every (size w) nodeFitsAt
+      && every (size w) (λ g. every (T .kinds) (slotFitsAt g))
+      && all unusedNode (drop (size w) (w .nodes))
+      && all isEmpty (drop (T .kinds * size w) (w .growth))
+      && all not (drop (T .kinds * size w) (w .correction))

@@ -1,0 +1,10 @@
+pub mod Lists
+pub mod LawsLists
+pub mod Window
+pub mod Fresh
+pub mod Formed
+pub mod Round
+pub mod Grow
+pub mod Merging
+pub mod Run
+pub mod Calls

@@ -1,0 +1,93 @@
+-- ROUND: a new sheet on top, all else moves down one sheet, and the bottom layer leaves. Assumes nothing.
+use Prim.Native.Nat.{ℕ, _+_, _-_, _*_, _/_, _%_}
+use mathlib.Core.Bool.{Bool, false, _&&_, _||_, not}
+use mathlib.Core.List.{List}
+use lib.Dec.{ltb, eqb}
+use lib.ListN.{getD}
+use Rattle.shape.specs.Choice.{if}
+use Rattle.shape.specs.Sizes.{sheetsOf, boundary, detectorsOf, layerEdgesOf}
+use Rattle.shape.specs.Nodes.{indexOf, numberOf, boundaryNodes}
+use Rattle.shape.specs.Steps.{Table, step, across}
+use Rattle.shape.specs.Layer.{edgeOf}
+use Rattle.shape.specs.declared.Edge.{Edge}
+use Rattle.shape.specs.declared.Place.{Place}
+use Rattle.window.specs.Lists.{byPlace, over, bit}
+use Rattle.window.specs.Window.{alone, namer, size, sheet, at, place}
+use Rattle.window.specs.declared.Mark.{Mark}
+use Rattle.window.specs.declared.Mark.the-variants.{Reset, Root}
+use Rattle.window.specs.declared.Stage.the-variants.{ToGrow}
+use Rattle.window.specs.declared.Node.{Node}
+use Rattle.window.specs.declared.Window.{Window}
+
+-- WHAT LEAVES
+
+-- the slot of a layer's edge, in the sheet at a depth
+abbrev pub edgeSlot : Table → ℕ → ℕ → ℕ → Edge → ℕ
+edgeSlot T h d depth e = T .kinds * indexOf h d (record { depth = depth; row = e .row; column = e .column }) + e .kind
+
+-- the ith detector of the sheet at a depth, row by row
+abbrev pub detectorAt : ℕ → ℕ → ℕ → Place
+detectorAt d depth i = record { depth = depth; row = i / (d - 1); column = i % (d - 1) + 1 }
+
+module _ (T : Table) (w : Window) where
+  -- the bottom layer's correction bits go to the edge buffer, one byte an edge
+  unfoldable pub committed : List ℕ
+  committed =
+      let h = w .shape .height in
+      let d = w .shape .distance in
+      byPlace (layerEdgesOf h d) (λ i. bit (getD (w .correction) (edgeSlot T h d (sheetsOf d - 1) (edgeOf h d i)) false))
+
+  -- the bottom sheet's defects go to the escape buffer, one byte a detector
+  unfoldable pub escaped : List ℕ
+  escaped =
+      let h = w .shape .height in
+      let d = w .shape .distance in
+      byPlace (detectorsOf h d) (λ i. bit (at w (indexOf h d (detectorAt d (sheetsOf d - 1) i)) .defect))
+
+-- WHAT MOVES DOWN
+
+-- marks move to the node below, +2h boundary, +h(d-1) detector; a mark already in the ghost sheet stays
+unfoldable pub loweredNumber : ℕ → ℕ → ℕ → ℕ
+loweredNumber h d m =
+    let s = sheetsOf d in
+    if (ltb m (2 * h * s)) (m + 2 * h)
+    (if (ltb m (boundaryNodes h d)) m
+    (if (ltb m (boundaryNodes h d + h * (d - 1) * s)) (m + h * (d - 1)) m))
+
+abbrev pub lowered : ℕ → ℕ → Mark → Mark
+lowered h d Reset = Reset
+lowered h d (Root m) = Root (loweredNumber h d m)
+
+-- all unrooted bits become false
+abbrev pub sunk : ℕ → ℕ → Node → Node
+sunk h d n = record { active = n .active; defect = n .defect; unrooted = false; pointer = n .pointer; mark = lowered h d (n .mark) }
+
+-- the new top sheet is fresh but for the defects, one byte a detector, row by row
+unfoldable pub received : ℕ → ℕ → List ℕ → Place → Node
+received h d bytes q =
+    alone (numberOf h d q) (not (boundary d (q .column)) && eqb (getD bytes (q .row * (d - 1) + (q .column - 1)) 0) 1)
+
+module _ (T : Table) (w : Window) (bytes : List ℕ) where
+  unfoldable pub fallenNode : ℕ → Node
+  fallenNode g =
+      if (ltb g (sheet w)) (received (w .shape .height) (w .shape .distance) bytes (place w g))
+      (sunk (w .shape .height) (w .shape .distance) (at w (g - sheet w)))
+
+  -- an edge of the new top sheet: one of its own, or a down edge
+  abbrev pub atTop : ℕ → ℕ → Bool
+  atTop g p = eqb (place w g .depth) 0 || eqb (across (step T p) (place w g) .depth) 0
+
+  -- what stands in a slot: nothing where the edge is new, else what stood one sheet above
+  unfoldable pub fallenSlot {ℓ} : {A : Type ℓ} → A → List A → ℕ → A
+  fallenSlot zero old e = if (atTop (e / T .kinds) (namer T (e % T .kinds))) zero (getD old (e - T .kinds * sheet w) zero)
+
+  unfoldable pub rounded : Window
+  rounded =
+      record {
+        shape = w .shape;
+        stage = ToGrow;
+        next = w .next + 1;
+        nodes = over (size w) fallenNode (w .nodes);
+        growth = over (T .kinds * size w) (fallenSlot 0 (w .growth)) (w .growth);
+        correction = over (T .kinds * size w) (fallenSlot false (w .correction)) (w .correction);
+      }

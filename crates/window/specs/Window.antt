@@ -1,0 +1,100 @@
+-- What stands in a window: by node, and over a step. Everything is over a table of steps T. Assumes nothing.
+use Prim.Native.Nat.{ℕ, zero, suc, _+_, _*_}
+use mathlib.Core.Bool.{Bool, true, false, _&&_, not}
+use mathlib.Core.List.{List, [], _∷_}
+use lib.Dec.{ltb, eqb}
+use lib.ListN.{getD}
+use Rattle.shape.specs.Sizes.{sheetsOf, boundary, nodesOf}
+use Rattle.shape.specs.Nodes.{indexOf, placeAt}
+use Rattle.shape.specs.Steps.{Table, step, near, slot}
+use Rattle.shape.specs.declared.Place.{Place}
+use Rattle.shape.specs.declared.Step.{Step}
+use Rattle.shape.specs.declared.Found.the-variants.{At, Nowhere}
+use Rattle.window.specs.declared.Mark.{Mark}
+use Rattle.window.specs.declared.Mark.the-variants.{Reset, Root}
+use Rattle.window.specs.declared.Stage.{Stage}
+use Rattle.window.specs.declared.Stage.the-variants.{Rest, ToGrow, Merging}
+use Rattle.window.specs.declared.Node.{Node}
+use Rattle.window.specs.declared.Window.{Window}
+use Rattle.window.specs.declared.Way.{Way}
+
+-- a cluster of its own: mark m, pointer C, and perhaps a defect
+abbrev pub alone : ℕ → Bool → Node
+alone m x = record { active = false; defect = x; unrooted = false; pointer = 0; mark = Root m }
+
+-- an unused entry: zero, mark the number 0, pointer C
+abbrev pub unused : Node
+unused = alone 0 false
+
+-- what an array gives past its end
+abbrev pub beyond : Node
+beyond = record { active = false; defect = false; unrooted = false; pointer = 0; mark = Reset }
+
+abbrev pub isRest : Stage → Bool
+isRest Rest = true
+isRest ToGrow = false
+isRest Merging = false
+
+abbrev pub isToGrow : Stage → Bool
+isToGrow Rest = false
+isToGrow ToGrow = true
+isToGrow Merging = false
+
+abbrev pub isMerging : Stage → Bool
+isMerging Rest = false
+isMerging ToGrow = false
+isMerging Merging = true
+
+-- A STEP FROM A PLACE, in a shape whose first k sheets are present
+
+abbrev pub nowhere : Way
+nowhere = record { there = false; node = 0; slot = 0; detector = false }
+
+unfoldable pub reach : Table → ℕ → ℕ → ℕ → ℕ → Place → Way
+reach T h d k p q =
+    elim (near T h d k p q) [
+      | At q' ↦ record { there = true; node = indexOf h d q'; slot = slot T h d p q; detector = not (boundary d (q' .column)) }
+      | Nowhere ↦ nowhere
+    ]
+
+-- the pointer of a step has a D
+abbrev pub falls : Table → ℕ → Bool
+falls T p = ltb (step T p .sheet .less) (step T p .sheet .more)
+
+-- the direction in which a node names its edge of a kind
+unfoldable pub naming : List Step → ℕ → ℕ → ℕ
+naming [] kind p = 0
+naming (st ∷ sts) kind p = elim (st .own && eqb (st .kind) kind) [ true ↦ p | false ↦ naming sts kind (suc p) ]
+
+abbrev pub namer : Table → ℕ → ℕ
+namer T kind = naming (T .steps) kind 1
+
+-- BY NODE, in the internal order
+
+module _ (w : Window) where
+  abbrev pub size : ℕ
+  size = nodesOf (w .shape .height) (w .shape .distance)
+
+  -- the nodes of one sheet
+  abbrev pub sheet : ℕ
+  sheet = w .shape .height * (w .shape .distance + 1)
+
+  -- the sheets that are there
+  abbrev pub present : ℕ
+  present = sheetsOf (w .shape .distance)
+
+  abbrev pub at : ℕ → Node
+  at g = getD (w .nodes) g beyond
+
+  abbrev pub place : ℕ → Place
+  place g = placeAt (w .shape .height) (w .shape .distance) g
+
+  abbrev pub detector : ℕ → Bool
+  detector g = not (boundary (w .shape .distance) (place g .column))
+
+  abbrev pub bottom : ℕ → Bool
+  bottom g = eqb (place g .depth + 1) (sheetsOf (w .shape .distance))
+
+  -- what the step of pointer p leads to from node g
+  abbrev pub to : Table → ℕ → ℕ → Way
+  to T p g = reach T (w .shape .height) (w .shape .distance) present p (place g)

@@ -1,0 +1,92 @@
+// What a window holds. The rules of its calls stand in specs/.
+use refusal::Refusal;
+use shape::Shape;
+ghost use mathlib.Core.Path.{_≡_};
+ghost use Rattle.window.specs.Window.{alone as aloneOf};
+
+// A node's cluster mark: reset, or the number of a root.
+pub enum Mark {
+    Reset,
+    Root(u16),
+}
+
+// Pointers are 0 for C, and the places of N, W, E, S, D, U in the scan order, from 1.
+pub struct Node {
+    pub active: bool,
+    pub defect: bool,
+    pub unrooted: bool,
+    pub pointer: u8,
+    pub mark: Mark,
+}
+
+pub enum Stage {
+    Rest,
+    ToGrow,
+    Merging,
+}
+
+// Nodes in the internal order; an edge's growth and correction at three times the index of the end that names it, plus its kind.
+pub struct Window {
+    pub shape: Shape,
+    pub stage: Stage,
+    pub next: u32,
+    pub nodes: [Node; 3600],
+    pub growth: [u8; 10800],
+    pub correction: [bool; 10800],
+}
+
+// What a step leads to: whether there is an edge, its slot, and the node at its other end.
+pub struct Way {
+    pub there: bool,
+    pub node: usize,
+    pub slot: usize,
+    pub detector: bool,
+}
+
+// What a node sees in one direction.
+pub struct Seen {
+    pub there: bool,
+    pub grown: bool,
+    pub active: bool,
+    pub pushes: bool,
+    pub mark: Mark,
+}
+
+// What flooding leaves of a node.
+pub struct Flooded {
+    pub unrooted: bool,
+    pub pointer: u8,
+    pub mark: Mark,
+    pub busy: bool,
+}
+
+// A node after a merging step.
+pub struct Stepped {
+    pub node: Node,
+    pub busy: bool,
+}
+
+// How a call ended.
+pub enum Called {
+    Done,
+    Refused(Refusal),
+}
+
+// A call's answer, and the window after it.
+pub struct Given {
+    pub answer: Called,
+    pub window: Window,
+}
+
+// A cluster of its own.
+pub fn alone(mark: u16, defect: bool) -> Node
+    ensures { λ r. ⌜ r ≡ aloneOf mark defect ⌝ }
+{
+    Node {
+        active: false,
+        defect,
+        unrooted: false,
+        pointer: 0,
+        mark: Mark::Root(mark),
+    }
+}
