@@ -11,7 +11,7 @@ use lib.ListN.{length, getD, set}
 use Rattle.shape.specs.Choice.{if, if-true, if-false}
 use Rattle.shape.specs.Sizes.{sheetsOf, nodesOf}
 use Rattle.shape.specs.Ranges.{Ranged}
-use Rattle.walk.specs.LawsWalk.{slot-node, slot-kind}
+use Rattle.walk.specs.LawsWalk.{slot-node, slot-kind, falls-down}
 use Rattle.shape.specs.Nodes.{placeAt}
 use Rattle.shape.specs.Steps.{base}
 use Rattle.shape.specs.declared.Place.{Place}
@@ -46,20 +46,9 @@ bit-low false = omega arith
 
 -- A NODE
 
-pub falls-five : (p : ℕ) → falls base p ≡ eqb p 5
-unfolding base
-falls-five zero = refl
-falls-five (suc zero) = refl
-falls-five (suc (suc zero)) = refl
-falls-five (suc (suc (suc zero))) = refl
-falls-five (suc (suc (suc (suc zero)))) = refl
-falls-five (suc (suc (suc (suc (suc zero))))) = refl
-falls-five (suc (suc (suc (suc (suc (suc zero)))))) = refl
-falls-five (suc (suc (suc (suc (suc (suc (suc p))))))) = sym (ne-eqb (suc (suc (suc (suc (suc (suc (suc p))))))) 5 (λ e. omega arith))
-
 module _ (d depth s : ℕ) (n : Node) (e : s ≡ sheetsOf d) where
   tested : (eqb (depth + 1) s && eqb (n .pointer) 5) ≡ (eqb (depth + 1) (sheetsOf d) && falls base (n .pointer))
-  tested = rw (e, falls-five (n .pointer))
+  tested = rw (e, falls-down (n .pointer))
 
   pub cut-yes : eqb (depth + 1) s && eqb (n .pointer) 5 ≡ true → cut n ≡ if (eqb (depth + 1) (sheetsOf d) && falls base (n .pointer)) (cut n) n
   cut-yes t = sym (if-true _ (cut n) n (sym tested ∙ t))
@@ -83,18 +72,6 @@ module _ (w : Window) (g : ℕ) where
       let i : e / 3 ≡ g = ap (λ (j : ℕ). j / 3) y ∙ slot-node g kind l in
       let k : e % 3 ≡ kind = ap (λ (j : ℕ). j % 3) y ∙ slot-kind g kind l in
       t ∙ rw (i, k, z, b, a, f, x)
-
-pub named-0 : namer base 0 ≡ 3
-unfolding base naming
-named-0 = refl
-
-pub named-1 : namer base 1 ≡ 4
-unfolding base naming
-named-1 = refl
-
-pub named-2 : namer base 2 ≡ 6
-unfolding base naming
-named-2 = refl
 
 -- its three slots
 pub three : (w : Window) (g : ℕ) (now : List ℕ) (a b c : ℕ) → 3 * g + 2 < length (w .growth) → now ≡ over (3 * g) (grownSlot base w) (w .growth)

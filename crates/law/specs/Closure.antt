@@ -4,7 +4,7 @@ use mathlib.Core.Path.{_≡_, refl, subst}
 use mathlib.Core.Bool.{Bool, true, false, not}
 use mathlib.Core.List.{List, [], _∷_}
 use borrow.Author.Tests.{not-true}
-use lib.ListN.{drop}
+use lib.ListN.{length, drop}
 use Rattle.refusal.specs.Answer.{Answer, done, ended, refused, refusedAt, unless}
 use Rattle.refusal.specs.Done.{went, took}
 use Rattle.refusal.specs.Tests.{tests-done}
@@ -101,7 +101,7 @@ module _ (T : Table) (S : Suited T) where
     round-done : (bytes edges escapes : List ℕ) (v : Round) (n : ℕ) → roundCall T w bytes edges escapes ≡ done v n → Kept T (v .window)
     unfolding roundCall
     round-done bytes edges escapes v n e =
-        let x = passed T w (isRest (w .stage)) (drop 2 (roundTests T w bytes edges escapes)) (record { window = rounded T w bytes; edges = committed T w; escapes = escaped T w }) v n e in
+        let x = passed T w (isRest (w .stage)) (drop 2 (roundTests T w bytes (length edges) (length escapes))) (record { window = rounded T w bytes; edges = committed T w; escapes = escaped T w }) v n e in
         subst (λ (r : Round). Kept T (r .window)) (x .value) (kept-round T S w (record { formed = x .formed; sized = s }) bytes (x .staged))
 
     grow-done : (v : Window) (n : ℕ) → growCall T w ≡ done v n → Kept T v

@@ -1,11 +1,12 @@
 -- Laws of the walk through a window. Assumes nothing.
-use Prim.Native.Nat.{ℕ, _+_, _*_, _/_, _%_, _≤_, _<_}
+use Prim.Native.Nat.{ℕ, zero, suc, _+_, _*_, _/_, _%_, _≤_, _<_}
 use native.Mathlib.Nat.{add-mul, one-mul, mul-comm, mod-lt, div-eq-of-lt, mod-eq-of-lt, not-suc-le-zero}
 use native.Mathlib.Omega.{arith}
 use mathlib.Core.Path.{_≡_, refl, sym, _∙_, ap, subst}
 use mathlib.Core.Bool.{Bool, true, false, not}
 use mathlib.Core.Logic.{⊎-elim}
-use borrow.Author.Tests.{lt-ltb, le-ltb}
+use borrow.Author.Tests.{lt-ltb, le-ltb, ne-eqb}
+use lib.Dec.{eqb}
 use Rattle.shape.specs.Choice.{order, if-false}
 use Rattle.shape.specs.Sizes.{sheetsOf, boundary, inRange, nodesIn, nodesOf}
 use Rattle.shape.specs.Ranges.{Ranged, ranged, nodes-of, sheets-le}
@@ -16,7 +17,7 @@ use Rattle.shape.specs.Proper.{proper-base}
 use Rattle.shape.specs.LawsStep.{near-inside, slot-max}
 use Rattle.shape.specs.declared.Found.{Found}
 use Rattle.shape.specs.declared.Found.the-variants.{At, Nowhere}
-use Rattle.window.specs.Window.{nowhere, reach}
+use Rattle.window.specs.Window.{falls, naming, namer, nowhere, reach}
 use Rattle.window.specs.declared.Way.{Way}
 use Rattle.shape.specs.LawsIndex.{index-place, place-index, index-inside, index-lt, window-le, numbers-le}
 use Rattle.shape.specs.LawsNumber.{number-lt}
@@ -195,3 +196,28 @@ module _ (h d p : ℕ) (q : Place) (r : Ranged h d) where
 
 pub ends-low : (h d p : ℕ) (q : Place) (way : Way) → Ranged h d → way ≡ reach base h d (sheetsOf d) p q → (way .node < 3600) × (way .slot < 10800)
 ends-low h d p q way r e = rw e (way-low h d p q r)
+
+-- of the pointers only D goes to the sheet below
+pub falls-down : (p : ℕ) → falls base p ≡ eqb p 5
+unfolding base
+falls-down zero = refl
+falls-down (suc zero) = refl
+falls-down (suc (suc zero)) = refl
+falls-down (suc (suc (suc zero))) = refl
+falls-down (suc (suc (suc (suc zero)))) = refl
+falls-down (suc (suc (suc (suc (suc zero))))) = refl
+falls-down (suc (suc (suc (suc (suc (suc zero)))))) = refl
+falls-down (suc (suc (suc (suc (suc (suc (suc p))))))) = sym (ne-eqb (suc (suc (suc (suc (suc (suc (suc p))))))) 5 (λ e. omega arith))
+
+-- the directions in which a node names its edges: E, S, U
+pub named-east : namer base 0 ≡ 3
+unfolding base naming
+named-east = refl
+
+pub named-south : namer base 1 ≡ 4
+unfolding base naming
+named-south = refl
+
+pub named-up : namer base 2 ≡ 6
+unfolding base naming
+named-up = refl

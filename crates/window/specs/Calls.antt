@@ -61,21 +61,21 @@ module _ (T : Table) (w : Window) where
   abbrev pub stateTests : Bool → List (Bool × ℕ)
   stateTests stage = (wellFormed T w, 21) ∷ (stage, 22) ∷ []
 
-  -- 21, 22, 23, 3, 5, 6, 4
-  abbrev pub roundTests : List ℕ → List ℕ → List ℕ → List (Bool × ℕ)
+  -- 21, 22, 23, 3, 5, 6, 4; of the buffers their lengths
+  abbrev pub roundTests : List ℕ → ℕ → ℕ → List (Bool × ℕ)
   roundTests bytes edges escapes =
       (wellFormed T w, 21)
       ∷ (isRest (w .stage), 22)
       ∷ (ltb (w .next) 4294967295, 23)
       ∷ (eqb (length bytes) (detectorsOf (w .shape .height) (w .shape .distance)), 3)
-      ∷ (eqb (length edges) (layerEdgesOf (w .shape .height) (w .shape .distance)), 5)
-      ∷ (eqb (length escapes) (detectorsOf (w .shape .height) (w .shape .distance)), 6)
+      ∷ (eqb edges (layerEdgesOf (w .shape .height) (w .shape .distance)), 5)
+      ∷ (eqb escapes (detectorsOf (w .shape .height) (w .shape .distance)), 6)
       ∷ (areBits bytes, 4)
       ∷ []
 
   unfoldable pub roundCall : List ℕ → List ℕ → List ℕ → Answer Round
   roundCall bytes edges escapes =
-      unless (roundTests bytes edges escapes)
+      unless (roundTests bytes (length edges) (length escapes))
       (done (record { window = rounded T w bytes; edges = committed T w; escapes = escaped T w }) 0)
 
   unfoldable pub growCall : Answer Window

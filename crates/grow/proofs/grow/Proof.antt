@@ -18,11 +18,11 @@ use Rattle.walk.proofs.reach.Reads as reach-reads
 use Rattle.shape.specs.Nodes.{placeAt}
 use Rattle.shape.specs.Steps.{base}
 use Rattle.walk.specs.Walk.{Stands}
-use Rattle.walk.specs.LawsWalk.{first-place, stands-at, stands-low, depth-low, walks-on, ends-low}
+use Rattle.walk.specs.LawsWalk.{first-place, stands-at, stands-low, depth-low, walks-on, ends-low, named-east, named-south, named-up}
 use Rattle.window.specs.Lists.{over}
 use Rattle.window.specs.LawsLists.{over-none, over-next, over-three}
 use Rattle.window.specs.Grow.{grownNode, grownSlot, grown}
-use Rattle.grow.proofs.Parts.{node-by, slot-by, named-0, named-1, named-2, three, finished}
+use Rattle.grow.proofs.Parts.{node-by, slot-by, three, finished}
 use Rattle.window.specs.Window.{size}
 
 abbrev Inv-loop : tie.InvT-loop
@@ -186,9 +186,9 @@ loop-again c = let w = (c .before .before .before .before .before .before .befor
     let q = c .before .before .before .before .before .before .before .before .before .before .before .before .before .before .before .before .loop .place in
     let st = c .before .before .before .before .before .before .before .before .before .before .before .before .before .before .before .before .before .before .before .before .before in
     let e = c .before .before .before .before .before .before .before .before .before .before .before .before .before .before .before .before .loop .inv .1 (here (c .before .before .before .before .before .before .before .before .before .before .before .before .before .before .before) .ranged .h1) in
-    let a = slot-by w g 0 3 (3 * g) (c .before .before .before .before .before .before .before .gain .result) q (c .before .before .before .before .before .before .before .before .before .before .before .before .reach .result) _ _ (omega arith) (omega arith) named-0 e (c .before .before .before .before .before .before .before .before .before .before .before .before .reach .ensures) refl refl (c .before .before .before .before .before .before .before .gain .ensures) in
-    let b = slot-by w g 1 4 (3 * g + 1) (c .before .before .before .before .gain2 .result) q (c .before .before .before .before .before .before .before .before .before .before .before .reach2 .result) _ _ (omega arith) (omega arith) named-1 e (c .before .before .before .before .before .before .before .before .before .before .before .reach2 .ensures) refl refl (c .before .before .before .before .gain2 .ensures) in
-    let d = slot-by w g 2 6 (3 * g + 2) (c .before .gain3 .result) q (c .before .before .before .before .before .before .before .before .before .before .reach3 .result) _ _ (omega arith) (omega arith) named-2 e (c .before .before .before .before .before .before .before .before .before .before .reach3 .ensures) refl refl (c .before .gain3 .ensures) in
+    let a = slot-by w g 0 3 (3 * g) (c .before .before .before .before .before .before .before .gain .result) q (c .before .before .before .before .before .before .before .before .before .before .before .before .reach .result) _ _ (omega arith) (omega arith) named-east e (c .before .before .before .before .before .before .before .before .before .before .before .before .reach .ensures) refl refl (c .before .before .before .before .before .before .before .gain .ensures) in
+    let b = slot-by w g 1 4 (3 * g + 1) (c .before .before .before .before .gain2 .result) q (c .before .before .before .before .before .before .before .before .before .before .before .reach2 .result) _ _ (omega arith) (omega arith) named-south e (c .before .before .before .before .before .before .before .before .before .before .before .reach2 .ensures) refl refl (c .before .before .before .before .gain2 .ensures) in
+    let d = slot-by w g 2 6 (3 * g + 2) (c .before .gain3 .result) q (c .before .before .before .before .before .before .before .before .before .before .reach3 .result) _ _ (omega arith) (omega arith) named-up e (c .before .before .before .before .before .before .before .before .before .before .reach3 .ensures) refl refl (c .before .gain3 .ensures) in
     let l : g < length (w .nodes) = omega (arith, low (c .before .before .before .before .before .before .before .before .before .before .before .before .before .before .before), long st) in
     let k : 3 * g + 2 < length (w .growth) = omega (arith, low (c .before .before .before .before .before .before .before .before .before .before .before .before .before .before .before), halves st) in (
       turn _ _ (c .before .before .before .before .before .before .before .before .before .before .before .before .before .before .before .loop-test .taken),

@@ -1,0 +1,59 @@
+use mathlib.Core.Path.{_≡_, refl, sym, _∙_, ap}
+use mathlib.Core.Logic.{⊎-elim}
+use mathlib.Core.Bool.{Bool, true, false}
+use Prim.Native.Nat.{ℕ, _≤_, _<_, _-_, _+_, _*_}
+use native.Mathlib.Omega.{arith}
+use borrow.Author.Needs.{needs}
+use borrow.Author.Tests.{lt-ltb, le-ltb, le-leb, lt-leb, eq-eqb, ne-eqb, not-true, not-false}
+use lib.ListN.{length, drop, getD, set, length-map, length-set}
+use Rattle.calls.proofs.fresh.Statement.{statement}
+use Rattle.calls.proofs.fresh.Tie as tie
+use Rattle.calls.proofs.fresh.Reads as reads
+use Rattle.calls.proofs.fresh.Lts as lts
+use Rattle.calls.proofs.fresh_window.Reads as fresh-window-reads
+use Rattle.calls.proofs.no_window.Reads as no-window-reads
+use Rattle.shape.proofs.shape_of.Reads as shape-of-reads
+use Rattle.refusal.specs.Answer.{turned}
+use Rattle.window.specs.Calls.{given}
+use Rattle.window.specs.declared.Window.{Window}
+use Rattle.calls.proofs.Leaves.{shape-ranged, fresh-refused, fresh-done}
+
+-- src/lib.rt:80:9
+shape-of-requires : tie.Need-shape-of-requires
+shape-of-requires c κs = search needs
+
+-- src/lib.rt:82:25
+enum-known-shaped : tie.Need-enum-known-shaped
+enum-known-shaped c = search needs
+
+-- src/lib.rt:84:21
+no-window-requires : tie.Need-no-window-requires
+no-window-requires c κs = search needs
+
+-- src/lib.rt:86:23
+enum-known-shaped-2 : tie.Need-enum-known-shaped-2
+enum-known-shaped-2 c = search needs
+
+-- src/lib.rt:88:21
+fresh-window-requires : tie.Need-fresh-window-requires
+fresh-window-requires c κs = shape-ranged (c .before .before .before .before .args .height) (c .before .before .before .before .args .distance) (c .before .before .before .shape-of .result) (c .before .before .before .shape-of .ensures) (c .before .shaped2 .given .0 .0) (c .before .shaped2 .given .1)
+
+-- src/lib.rt:77:1
+returns : tie.Need-returns
+returns c = ap (λ (x : Window). given (turned (c .before .before .shaped .given .0 .0)) x) (c .no-window .ensures) ∙ fresh-refused (c .before .before .before .before .before .args .height) (c .before .before .before .before .before .args .distance) (c .before .before .before .before .shape-of .result) (c .before .before .before .before .shape-of .ensures) (c .before .before .shaped .given .0 .0) (c .before .before .shaped .given .1)
+
+-- src/lib.rt:77:1
+returns-2 : tie.Need-returns-2
+returns-2 c = fresh-done (c .before .before .before .before .before .args .height) (c .before .before .before .before .before .args .distance) (c .before .before .before .before .shape-of .result) (c .before .before .before .before .shape-of .ensures) (c .before .before .shaped2 .given .0 .0) (c .fresh-window .result) (c .before .before .shaped2 .given .1) (c .fresh-window .ensures)
+
+pub fresh-spec : {M : Type 1} → statement M
+fresh-spec =
+    tie.close
+    (tie.spec
+    shape-of-requires
+    enum-known-shaped
+    no-window-requires
+    enum-known-shaped-2
+    fresh-window-requires
+    returns
+    returns-2)

@@ -1,0 +1,40 @@
+-- What the calls answer and leave, refused ones too. Assumes nothing.
+use Prim.Native.Nat.{ℕ}
+use mathlib.Core.Bool.{Bool, true, false}
+use mathlib.Core.List.{List}
+use Rattle.refusal.specs.Answer.{Answer, done, turned, andThen, passed, valueOr, itself}
+use Rattle.shape.specs.Steps.{Table}
+use Rattle.window.specs.Window.{isRest}
+use Rattle.window.specs.Calls.{Answered, given, windowOf, edgesOf, escapesOf, roundCall, mergingCall}
+use Rattle.window.specs.declared.Window.{Window}
+use Rattle.calls.specs.declared.Merged.{Merged}
+use Rattle.calls.specs.declared.Merged.the-variants as merged
+
+-- ROUND: the answer, the window and both buffers
+
+pub record Received : Type 0 where
+  pub answer : Answer (Unit {0})
+  pub window : Window
+  pub edges : List ℕ
+  pub escapes : List ℕ
+
+abbrev pub received : Answer (Unit {0}) → Window → List ℕ → List ℕ → Received
+received a w edges escapes = record { answer = a; window = w; edges = edges; escapes = escapes }
+
+-- what is refused stays as it was
+abbrev pub roundLeaves : Table → Window → List ℕ → List ℕ → List ℕ → Received
+roundLeaves T w bytes edges escapes =
+    let a = roundCall T w bytes edges escapes in
+    received (passed a) (valueOr a windowOf w) (valueOr a edgesOf edges) (valueOr a escapesOf escapes)
+
+-- MERGING: the answer says whether the stage is rest
+
+abbrev pub toldMerged : Merged → Answer Bool
+toldMerged merged.Busy = done false 0
+toldMerged merged.Rest = done true 0
+toldMerged (merged.Refused f) = turned f
+
+abbrev pub mergingLeaves : Table → Window → Answered Bool
+mergingLeaves T w =
+    let a = mergingCall T w in
+    given (andThen a (λ v n. done (isRest (v .stage)) n)) (valueOr a itself w)

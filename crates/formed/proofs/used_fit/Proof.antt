@@ -1,0 +1,235 @@
+-- `formed::used_fit` meets its contract. Assumes nothing.
+use mathlib.Core.Path.{_≡_, refl, sym, _∙_, subst}
+use mathlib.Core.Bool.{Bool, true, false, _&&_}
+use Prim.Native.Nat.{ℕ, _≤_, _<_, _-_, _+_, _*_}
+use native.Mathlib.Omega.{arith}
+use borrow.Author.Needs.{needs}
+use borrow.Author.Tests.{not-true, not-false}
+use lib.ListN.{getD}
+use native.Mathlib.Nat.{add-zero, le-antisymm}
+use Rattle.shape.specs.Sizes.{sheetsOf}
+use Rattle.shape.specs.Ranges.{both}
+use Rattle.shape.specs.Steps.{base}
+use Rattle.shape.specs.declared.Place.{Place}
+use Rattle.walk.specs.Walk.{Stands}
+use Rattle.walk.specs.LawsWalk.{first-place, walks, stands, peopled, nodes-max, depth-low}
+use Rattle.window.specs.declared.Node.{Node}
+use Rattle.window.specs.declared.Window.{Window}
+use Rattle.window.specs.Lists.{every}
+use Rattle.window.specs.LawsLists.{and-no, and-not, every-none, every-more, every-fails}
+use Rattle.window.specs.Window.{beyond, namer, naming, reach, size, at, place}
+use Rattle.window.specs.Formed.{nodeFits, slotFits, nodeFitsAt, slotFitsAt}
+use Rattle.formed.proofs.used_fit.Statement.{statement}
+use Rattle.formed.proofs.used_fit.Tie as tie
+
+abbrev slotsFitAt : Window → ℕ → Bool
+slotsFitAt w g = every 3 (slotFitsAt base w g)
+
+-- what the window's nodes and slots pass is one test
+abbrev fit : Window → Bool
+fit w = every (size w) (nodeFitsAt base w) && every (size w) (slotsFitAt w)
+
+module _ (w : Window) (g : ℕ) where
+  no-node : (a : Bool) → g < size w → a ≡ nodeFitsAt base w g → a ≡ false → false ≡ fit w
+  no-node a l e f =
+      sym (and-not (every (size w) (nodeFitsAt base w)) (every (size w) (slotsFitAt w)) (every-fails (nodeFitsAt base w) (size w) g l (sym e ∙ f)))
+
+  no-slot : (a : Bool) → g < size w → a ≡ slotsFitAt w g → a ≡ false → false ≡ fit w
+  no-slot a l e f =
+      sym (and-no (every (size w) (nodeFitsAt base w)) (every (size w) (slotsFitAt w)) (every-fails (slotsFitAt w) (size w) g l (sym e ∙ f)))
+
+  all-fit : g ≡ size w → every g (nodeFitsAt base w) ≡ true → every g (slotsFitAt w) ≡ true → true ≡ fit w
+  all-fit e p q =
+      sym (both (every (size w) (nodeFitsAt base w)) (every (size w) (slotsFitAt w)) (subst (λ (k : ℕ). every k (nodeFitsAt base w) ≡ true) e p) (subst (λ (k : ℕ). every k (slotsFitAt w) ≡ true) e q))
+
+-- a node names its edges by E, S and U
+three : base .kinds ≡ 3
+unfolding base
+three = refl
+
+names-row : namer base 0 ≡ 3
+unfolding base naming
+names-row = refl
+
+names-column : namer base 1 ≡ 4
+unfolding base naming
+names-column = refl
+
+names-time : namer base 2 ≡ 6
+unfolding base naming
+names-time = refl
+
+module _ (w : Window) (g : ℕ) (q : Place) (e : q ≡ place w g) where
+  node-fits-at : (n : Node) (a : Bool) → n ≡ at w g → a ≡ nodeFits base (w .stage) (w .shape .height) (w .shape .distance) q n → a ≡ nodeFitsAt base w g
+  node-fits-at n a f p = rw (← e, ← f) p
+
+  -- the slot of a kind, found by the pointer p and read at the place i
+  abbrev slotBy : ℕ → ℕ → Bool
+  slotBy p i =
+      slotFits (reach base (w .shape .height) (w .shape .distance) (sheetsOf (w .shape .distance)) p q .there) (getD (w .growth) i 0) (getD (w .correction) i false)
+
+  slot-at : (kind p i : ℕ) → namer base kind ≡ p → i ≡ 3 * g + kind → slotBy p i ≡ slotFitsAt base w g kind
+  unfolding slotFitsAt
+  slot-at kind p i f k = rw (f, three, ← e, k)
+
+  slots-fit-at : (a b c : Bool) → a ≡ slotBy 3 (3 * g) → b ≡ slotBy 4 (3 * g + 1) → c ≡ slotBy 6 (3 * g + 2) → a && b && c ≡ slotsFitAt w g
+  unfolding every
+  slots-fit-at a b c k l m =
+      rw (k ∙ slot-at 0 3 (3 * g) names-row (sym (add-zero (3 * g))), l ∙ slot-at 1 4 (3 * g + 1) names-column refl, m ∙ slot-at 2 6 (3 * g + 2) names-time refl)
+
+-- the first g nodes and their slots have passed, and the walk stands at the next
+record Passed (w : Window) (n : ℕ) (q : Place) (g : ℕ) : Type 0 where
+  within : g ≤ n
+  stood : 1 ≤ w .shape .height → q ≡ place w g
+  nodes : every g (nodeFitsAt base w) ≡ true
+  slots : every g (slotsFitAt w) ≡ true
+
+abbrev Inv-loop : tie.InvT-loop
+Inv-loop w shape stage n marks place₀ g₀ place g = Passed w n place g
+
+abbrev μ-loop : tie.MeasureT-loop
+μ-loop w shape stage n marks place₀ g₀ place g = n - g
+
+-- WHAT A TURN KNOWS
+
+module _ (c : tie.In-loop Inv-loop μ-loop) where
+  counted : c .before .loop .g < size (c .before .before .before .before .before .args .t1)
+  counted = omega (arith, c .loop-test .taken, c .before .before .before .nodes .ensures)
+
+  low : c .before .loop .g < 3600
+  low = let w = c .before .before .before .before .before .args .t1 in omega (arith, counted, nodes-max (w .shape .height) (w .shape .distance))
+
+  here : c .before .loop .place ≡ place (c .before .before .before .before .before .args .t1) (c .before .loop .g)
+  here = let w = c .before .before .before .before .before .args .t1 in c .before .loop .inv .stood (peopled (w .shape .height) (w .shape .distance) (c .before .loop .g) counted .h1)
+
+  on : let s = c .before .before .before .before .before .args .t1 .shape in Stands (s .height) (s .distance) (c .before .loop .place) (c .before .loop .g)
+  on = let s = c .before .before .before .before .before .args .t1 .shape in rw here (stands (s .height) (s .distance) (peopled (s .height) (s .distance) (c .before .loop .g) counted) (c .before .loop .g) counted)
+
+node-at : (c : tie.After-node-fits Inv-loop μ-loop) → c .node-fits .result ≡ nodeFitsAt base (c .before .before .before .before .before .before .before .args .t1) (c .before .before .before .loop .g)
+node-at c = node-fits-at (c .before .before .before .before .before .before .before .args .t1) (c .before .before .before .loop .g) (c .before .before .before .loop .place) (here (c .before .before)) (getD (c .before .before .before .before .before .before .before .args .t1 .nodes) (c .before .before .before .loop .g) beyond) (c .node-fits .result) refl (c .node-fits .ensures)
+
+module _ (c : tie.After-slot-fits3 Inv-loop μ-loop) where
+  slots-at : c .before .before .before .before .before .before .slot-fits .result && c .before .before .before .slot-fits2 .result && c .slot-fits3 .result ≡ slotsFitAt (c .before .before .before .before .before .before .before .before .before .before .before .before .before .before .before .before .before .args .t1) (c .before .before .before .before .before .before .before .before .before .before .before .before .before .loop .g)
+  slots-at = slots-fit-at (c .before .before .before .before .before .before .before .before .before .before .before .before .before .before .before .before .before .args .t1) (c .before .before .before .before .before .before .before .before .before .before .before .before .before .loop .g) (c .before .before .before .before .before .before .before .before .before .before .before .before .before .loop .place) (here (c .before .before .before .before .before .before .before .before .before .before .before .before)) (c .before .before .before .before .before .before .slot-fits .result) (c .before .before .before .slot-fits2 .result) (c .slot-fits3 .result) (c .before .before .before .before .before .before .slot-fits .ensures) (c .before .before .before .slot-fits2 .ensures) (c .slot-fits3 .ensures)
+
+nodes-requires : tie.Need-nodes-requires Inv-loop μ-loop
+nodes-requires c κs = search needs
+
+numbers-requires : tie.Need-numbers-requires Inv-loop μ-loop
+numbers-requires c κs = search needs
+
+loop-holds : tie.Need-loop-holds Inv-loop μ-loop
+loop-holds c = let w = c .before .before .before .args .t1 in record { within = omega arith; stood = first-place (w .shape .height) (w .shape .distance); nodes = every-none (nodeFitsAt base w); slots = every-none (slotsFitAt w) }
+
+mul-node : tie.Need-mul-node Inv-loop μ-loop
+mul-node c = omega (arith, low c)
+
+element-copy-out-node : tie.Need-element-copy-out-node Inv-loop μ-loop
+element-copy-out-node c = low c
+
+node-fits-requires : tie.Need-node-fits-requires Inv-loop μ-loop
+node-fits-requires c κs = (on (c .before), c .before .before .before .numbers .ensures)
+
+returns : tie.Need-returns Inv-loop μ-loop
+returns c = no-node (c .before .before .before .before .before .before .before .before .args .t1) _ _ (counted (c .before .before .before)) (node-at (c .before)) (not-true _ (c .if1 .taken))
+
+mul-e : tie.Need-mul-e Inv-loop μ-loop
+mul-e c = omega (arith, low (c .before .before .before))
+
+element-copy-out-slot-fits : tie.Need-element-copy-out-slot-fits Inv-loop μ-loop
+element-copy-out-slot-fits c = omega (arith, low (c .before .before .before))
+
+element-copy-out-slot-fits-2 : tie.Need-element-copy-out-slot-fits-2 Inv-loop μ-loop
+element-copy-out-slot-fits-2 c = omega (arith, low (c .before .before .before .before))
+
+slot-fits-requires : tie.Need-slot-fits-requires Inv-loop μ-loop
+slot-fits-requires c κs = on (c .before .before .before .before .before)
+
+add-slot-fits : tie.Need-add-slot-fits Inv-loop μ-loop
+add-slot-fits c = omega (arith, low (c .before .before .before .before .before .before))
+
+element-copy-out-slot-fits-3 : tie.Need-element-copy-out-slot-fits-3 Inv-loop μ-loop
+element-copy-out-slot-fits-3 c = omega (arith, low (c .before .before .before .before .before .before))
+
+add-slot-fits-2 : tie.Need-add-slot-fits-2 Inv-loop μ-loop
+add-slot-fits-2 c = omega (arith, low (c .before .before .before .before .before .before .before))
+
+element-copy-out-slot-fits-4 : tie.Need-element-copy-out-slot-fits-4 Inv-loop μ-loop
+element-copy-out-slot-fits-4 c = omega (arith, low (c .before .before .before .before .before .before .before))
+
+slot-fits-requires-2 : tie.Need-slot-fits-requires-2 Inv-loop μ-loop
+slot-fits-requires-2 c κs = on (c .before .before .before .before .before .before .before .before)
+
+add-slot-fits-3 : tie.Need-add-slot-fits-3 Inv-loop μ-loop
+add-slot-fits-3 c = omega (arith, low (c .before .before .before .before .before .before .before .before .before))
+
+element-copy-out-slot-fits-5 : tie.Need-element-copy-out-slot-fits-5 Inv-loop μ-loop
+element-copy-out-slot-fits-5 c = omega (arith, low (c .before .before .before .before .before .before .before .before .before))
+
+add-slot-fits-4 : tie.Need-add-slot-fits-4 Inv-loop μ-loop
+add-slot-fits-4 c = omega (arith, low (c .before .before .before .before .before .before .before .before .before .before))
+
+element-copy-out-slot-fits-6 : tie.Need-element-copy-out-slot-fits-6 Inv-loop μ-loop
+element-copy-out-slot-fits-6 c = omega (arith, low (c .before .before .before .before .before .before .before .before .before .before))
+
+slot-fits-requires-3 : tie.Need-slot-fits-requires-3 Inv-loop μ-loop
+slot-fits-requires-3 c κs = on (c .before .before .before .before .before .before .before .before .before .before .before)
+
+returns-2 : tie.Need-returns-2 Inv-loop μ-loop
+returns-2 c = no-slot (c .before .before .before .before .before .before .before .before .before .before .before .before .before .before .before .before .before .before .args .t1) _ _ (counted (c .before .before .before .before .before .before .before .before .before .before .before .before .before)) (slots-at (c .before)) (not-true _ (c .if2 .taken))
+
+next-place-requires : tie.Need-next-place-requires Inv-loop μ-loop
+next-place-requires c κs = omega (arith, depth-low _ _ _ _ (on (c .before .before .before .before .before .before .before .before .before .before .before .before .before)))
+
+add-g : tie.Need-add-g Inv-loop μ-loop
+add-g c = omega (arith, low (c .before .before .before .before .before .before .before .before .before .before .before .before .before .before))
+
+loop-less : tie.Need-loop-less Inv-loop μ-loop
+loop-less c = omega (arith, c .before .before .before .before .before .before .before .before .before .before .before .before .before .before .loop-test .taken)
+
+loop-again : tie.Need-loop-again Inv-loop μ-loop
+loop-again c = let w = c .before .before .before .before .before .before .before .before .before .before .before .before .before .before .before .before .before .before .before .args .t1 in
+    let l = c .before .before .before .before .before .before .before .before .before .before .before .before .before .before .before .loop in
+    record {
+      within = omega (arith, c .before .before .before .before .before .before .before .before .before .before .before .before .before .before .loop-test .taken);
+      stood = λ one. walks (w .shape .height) (w .shape .distance) (l .place) (c .next-place .result) (l .g) one (l .inv .stood one) (c .next-place .ensures);
+      nodes = every-more (nodeFitsAt base w) (l .g) (l .inv .nodes) (sym (node-at (c .before .before .before .before .before .before .before .before .before .before .before .before)) ∙ not-false _ (c .before .before .before .before .before .before .before .before .before .before .before .if1 .left));
+      slots = every-more (slotsFitAt w) (l .g) (l .inv .slots) (sym (slots-at (c .before .before)) ∙ not-false _ (c .before .if2 .left));
+    }
+
+returns-3 : tie.Need-returns-3 Inv-loop μ-loop
+returns-3 c = let w = c .before .before .before .before .before .args .t1 in let l = c .before .loop in all-fit w (l .g) (le-antisymm (omega (arith, c .before .before .before .nodes .ensures)) (omega (arith, c .loop-test .left, c .before .before .before .nodes .ensures))) (l .inv .nodes) (l .inv .slots)
+
+pub used-fit-spec : {M : Type 1} → statement M
+used-fit-spec =
+    tie.close
+    (tie.spec
+    Inv-loop
+    μ-loop
+    nodes-requires
+    numbers-requires
+    loop-holds
+    mul-node
+    element-copy-out-node
+    node-fits-requires
+    returns
+    mul-e
+    element-copy-out-slot-fits
+    element-copy-out-slot-fits-2
+    slot-fits-requires
+    add-slot-fits
+    element-copy-out-slot-fits-3
+    add-slot-fits-2
+    element-copy-out-slot-fits-4
+    slot-fits-requires-2
+    add-slot-fits-3
+    element-copy-out-slot-fits-5
+    add-slot-fits-4
+    element-copy-out-slot-fits-6
+    slot-fits-requires-3
+    returns-2
+    next-place-requires
+    add-g
+    loop-less
+    loop-again
+    returns-3)

@@ -1,0 +1,64 @@
+use mathlib.Core.Path.{_≡_, refl, sym, _∙_, ap}
+use mathlib.Core.Logic.{⊎-elim}
+use mathlib.Core.Bool.{Bool, true, false}
+use Prim.Native.Nat.{ℕ, _≤_, _<_, _-_, _+_, _*_}
+use native.Mathlib.Omega.{arith}
+use borrow.Author.Needs.{needs}
+use borrow.Author.Tests.{lt-ltb, le-ltb, le-leb, lt-leb, eq-eqb, ne-eqb, not-true, not-false}
+use lib.ListN.{length, drop, getD, set, length-map, length-set}
+use Rattle.window.specs.Merging.{arrivals}
+use Rattle.merge.proofs.Scan.{counted, all-counted}
+use Rattle.merge.proofs.arrives.Statement.{statement}
+use Rattle.merge.proofs.arrives.Tie as tie
+use Rattle.merge.proofs.arrives.Reads as reads
+use Rattle.merge.proofs.arrives.Lts as lts
+
+abbrev Inv-loop : tie.InvT-loop
+Inv-loop seen odd₀ k₀ odd k = (k ≤ 6) × (arrivals (drop k seen) odd ≡ arrivals seen false)
+
+abbrev μ-loop : tie.MeasureT-loop
+μ-loop seen odd₀ k₀ odd k = 6 - k
+
+-- src/lib.rt:79:5
+loop-holds : tie.Need-loop-holds Inv-loop μ-loop
+loop-holds c = search needs
+
+-- src/lib.rt:80:17
+mul-s : tie.Need-mul-s Inv-loop μ-loop
+mul-s c = search needs
+
+-- src/lib.rt:80:17
+array-copy-out-s : tie.Need-array-copy-out-s Inv-loop μ-loop
+array-copy-out-s c = search needs
+
+-- src/lib.rt:82:9
+add-k : tie.Need-add-k Inv-loop μ-loop
+add-k c = search needs
+
+-- src/lib.rt:79:5
+loop-less : tie.Need-loop-less Inv-loop μ-loop
+loop-less c = search needs
+
+six : (c : tie.Start Inv-loop μ-loop) → length (c .args .t1) ≡ 6
+six c = c .good .0 .1 .0 .1
+
+-- src/lib.rt:79:5
+loop-again : tie.Need-loop-again Inv-loop μ-loop
+loop-again c =
+    let l = c .before .before .before .loop in
+    let s = c .before .before .before .before in
+    let h : l .k < length (s .args .t1) = omega (arith, six s) in
+    (omega arith, sym (counted (s .args .t1) (l .k) (l .odd) h) ∙ l .inv .1)
+
+-- src/lib.rt:74:1
+returns : tie.Need-returns Inv-loop μ-loop
+returns c =
+    let l = c .before .loop in
+    let s = c .before .before in
+    let h : length (s .args .t1) ≤ l .k = omega (arith, six s) in
+    sym (all-counted (s .args .t1) (l .k) (l .odd) h) ∙ l .inv .1
+
+pub arrives-spec : {M : Type 1} → statement M
+arrives-spec =
+    tie.close
+    (tie.spec Inv-loop μ-loop loop-holds mul-s array-copy-out-s add-k loop-less loop-again returns)

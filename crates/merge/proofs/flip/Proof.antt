@@ -1,0 +1,28 @@
+use mathlib.Core.Path.{_≡_, refl, sym, _∙_, ap}
+use mathlib.Core.Logic.{⊎-elim}
+use mathlib.Core.Bool.{Bool, true, false}
+use Prim.Native.Nat.{ℕ, _≤_, _<_, _-_, _+_, _*_}
+use native.Mathlib.Omega.{arith}
+use borrow.Author.Needs.{needs}
+use borrow.Author.Tests.{lt-ltb, le-ltb, le-leb, lt-leb, eq-eqb, ne-eqb, not-true, not-false}
+use lib.ListN.{length, drop, getD, set, length-map, length-set}
+use Rattle.merge.proofs.flip.Statement.{statement}
+use Rattle.merge.proofs.flip.Tie as tie
+use Rattle.merge.proofs.flip.Reads as reads
+use Rattle.merge.proofs.flip.Lts as lts
+use Rattle.merge.proofs.pushes.Reads as pushes-reads
+
+-- src/lib.rt:193:9
+returns : tie.Need-returns
+returns c = rw (not-true (c .before .before .args .s .there) (c .if1 .taken))
+
+-- src/lib.rt:195:12
+pushes-requires : tie.Need-pushes-requires
+pushes-requires c κs = search needs
+
+-- src/lib.rt:189:1
+returns-2 : tie.Need-returns-2
+returns-2 c = rw (c .before .pushes .ensures, not-false (c .before .before .before .before .args .s .there) (c .before .before .if1 .left))
+
+pub flip-spec : {M : Type 1} → statement M
+flip-spec = tie.close (tie.spec returns pushes-requires returns-2)

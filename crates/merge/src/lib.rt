@@ -1,0 +1,257 @@
+// One merging step of a window: every node reads the window as it was, and its neighbours in the scan order.
+use shape::Place;
+use shape::Shape;
+use window::Flooded;
+use window::Mark;
+use window::Node;
+use window::Seen;
+use window::Stage;
+use window::Stepped;
+use window::Way;
+use window::Window;
+ghost use mathlib.Core.Path.{_≡_};
+ghost use mathlib.Core.Bool.{false};
+ghost use Rattle.shape.specs.Choice.{if};
+ghost use Rattle.shape.specs.Nodes.{numberOf};
+ghost use Rattle.shape.specs.Steps.{base};
+ghost use Rattle.walk.specs.Walk.{Stands};
+ghost use Rattle.window.specs.Merging.{sees, pushes as pushesAlong, syncedActive, arrivals, flipped, floods, stepped, merged, nothing as nothingSeen};
+ghost use Rattle.window.specs.declared.Stage.the-variants as stage;
+
+const BACK: [u8; 6] = [4, 3, 2, 1, 6, 5];
+
+fn nothing() -> Seen
+    ensures { λ r. ⌜ r ≡ nothingSeen ⌝ }
+{
+    Seen {
+        there: false,
+        grown: false,
+        active: false,
+        pushes: false,
+        mark: Mark::Reset,
+    }
+}
+
+// A hot node whose pointer is the given one.
+fn pushes(detector: bool, node: Node, pointer: u8) -> bool
+    ensures { λ r. ⌜ r ≡ pushesAlong detector node pointer ⌝ }
+{
+    (detector & node.defect) & (node.pointer == pointer)
+}
+
+// What stands over a way, in the direction of a pointer.
+fn look(way: Way, growth: u8, other: Node, back: u8) -> Seen
+    ensures { λ r. ⌜ r ≡ sees way growth other back ⌝ }
+{
+    if !way.there {
+        return nothing();
+    }
+    let mark = other.mark;
+    Seen {
+        there: true,
+        grown: growth == 2,
+        active: other.active,
+        pushes: pushes(way.detector, other, back),
+        mark,
+    }
+}
+
+// A node's active bit: its own heat, or what the node it points to has.
+fn sync(pointer: u8, hot: bool, seen: [Seen; 6]) -> bool
+    ensures { λ r. ⌜ r ≡ syncedActive pointer hot seen ⌝ }
+{
+    if pointer == 0 {
+        return hot;
+    }
+    if 6 < pointer {
+        return false;
+    }
+    let s = seen[(pointer - 1) as usize];
+    s.active
+}
+
+// Whether an odd number of defects arrives.
+fn arrives(seen: [Seen; 6]) -> bool
+    ensures { λ r. ⌜ r ≡ arrivals seen false ⌝ }
+{
+    let mut odd = false;
+    let mut k: usize = 0;
+    while k < 6 {
+        let s = seen[k];
+        odd = odd ^ s.pushes;
+        k += 1;
+    }
+    odd
+}
+
+// A node's mark and pointer by its neighbours', in the scan order.
+fn flood(
+    shape: Shape,
+    place: Place,
+    g: usize,
+    unrooted: bool,
+    pointer: u8,
+    mark: Mark,
+    seen: [Seen; 6],
+) -> Flooded
+    requires { ⌜ Stands (shape .height) (shape .distance) place g ⌝ }
+    ensures { λ r. ⌜ r ≡ floods (numberOf (shape .height) (shape .distance) place) unrooted pointer mark seen ⌝ }
+{
+    match mark {
+        Mark::Reset => {
+            let own = walk::number(shape, place, g);
+            Flooded {
+                unrooted: true,
+                pointer,
+                mark: Mark::Root(own),
+                busy: true,
+            }
+        }
+        Mark::Root(m) => {
+            let mut lowest = m;
+            let mut to = pointer;
+            let mut busy = false;
+            let mut reset = false;
+            let mut k: u8 = 0;
+            'scan: while k < 6 {
+                let s = seen[k as usize];
+                if s.grown {
+                    let there = s.mark;
+                    match there {
+                        Mark::Reset => {
+                            if !unrooted {
+                                reset = true;
+                                break 'scan;
+                            }
+                        }
+                        Mark::Root(v) => {
+                            if v < lowest {
+                                lowest = v;
+                                to = k + 1;
+                                busy = true;
+                            }
+                        }
+                    }
+                }
+                k += 1;
+            }
+            if reset {
+                return Flooded {
+                    unrooted,
+                    pointer: 0,
+                    mark: Mark::Reset,
+                    busy: true,
+                };
+            }
+            Flooded {
+                unrooted,
+                pointer: to,
+                mark: Mark::Root(lowest),
+                busy,
+            }
+        }
+    }
+}
+
+// One node's step.
+fn node_step(
+    shape: Shape,
+    place: Place,
+    g: usize,
+    detector: bool,
+    node: Node,
+    seen: [Seen; 6],
+) -> Stepped
+    requires { ⌜ Stands (shape .height) (shape .distance) place g ⌝ }
+    ensures { λ r. ⌜ r ≡ stepped (numberOf (shape .height) (shape .distance) place) detector node seen ⌝ }
+{
+    let pointer = node.pointer;
+    let mark = node.mark;
+    let hot = detector & node.defect;
+    let active = sync(pointer, hot, seen);
+    let sends = hot & (pointer != 0);
+    let arrived = arrives(seen);
+    let f = flood(shape, place, g, node.unrooted, pointer, mark, seen);
+    let to = f.mark;
+    Stepped {
+        node: Node {
+            active,
+            defect: (node.defect ^ sends) ^ (detector & arrived),
+            unrooted: f.unrooted,
+            pointer: f.pointer,
+            mark: to,
+        },
+        busy: (f.busy | sends) | (active ^ node.active),
+    }
+}
+
+// A correction bit after the step: flipped by the push of the node that names the edge, and by that of the node at its other end.
+fn flip(old: bool, detector: bool, node: Node, pointer: u8, s: Seen) -> bool
+    ensures { λ r. ⌜ r ≡ flipped old detector node pointer s ⌝ }
+{
+    if !s.there {
+        return old;
+    }
+    (old ^ pushes(detector, node, pointer)) ^ s.pushes
+}
+
+fn stage_after(busy: bool) -> Stage
+    ensures { λ r. ⌜ r ≡ if busy stage.Merging stage.Rest ⌝ }
+{
+    if busy {
+        return Stage::Merging;
+    }
+    Stage::Rest
+}
+
+pub fn merge(w: Window) -> Window
+    ensures { λ r. ⌜ r ≡ merged base w ⌝ }
+{
+    let shape = w.shape;
+    let n = shape::nodes(shape);
+    // what all nodes read: the state at the step's start
+    let old = w.nodes;
+    let mut nodes = old;
+    let mut correction = w.correction;
+    let mut busy = false;
+    let mut place = Place {
+        depth: 0,
+        row: 0,
+        column: 0,
+    };
+    let mut g: usize = 0;
+    while g < n {
+        let mut seen = [nothing(); 6];
+        let mut k: u8 = 0;
+        'look: while k < 6 {
+            let way = walk::reach(shape, k + 1, place, g);
+            let j = way.node;
+            let other = old[j];
+            let slot = way.slot;
+            let growth = w.growth[slot];
+            seen[k as usize] = look(way, growth, other, BACK[k as usize]);
+            k += 1;
+        }
+        let detector = !shape::is_boundary(shape, place.column);
+        let node = old[g];
+        let r = node_step(shape, place, g, detector, node, seen);
+        let x = r.node;
+        nodes[g] = x;
+        busy = busy | r.busy;
+        let e = 3 * g;
+        correction[e] = flip(w.correction[e], detector, node, 3, seen[2]);
+        correction[e + 1] = flip(w.correction[e + 1], detector, node, 4, seen[3]);
+        correction[e + 2] = flip(w.correction[e + 2], detector, node, 6, seen[5]);
+        place = walk::next_place(shape, place);
+        g += 1;
+    }
+    let growth = w.growth;
+    Window {
+        shape,
+        stage: stage_after(busy),
+        next: w.next,
+        nodes,
+        growth,
+        correction,
+    }
+}

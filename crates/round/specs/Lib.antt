@@ -1,0 +1,2 @@
+pub mod LawsBottom
+pub mod LawsFall
