@@ -90,36 +90,6 @@ pub fn fresh(height: u32, distance: u32) -> Given
     }
 }
 
-fn at_rest(stage: Stage) -> bool
-    ensures { λ r. ⌜ r ≡ isRest stage ⌝ }
-{
-    match stage {
-        Stage::Rest => true,
-        Stage::ToGrow => false,
-        Stage::Merging => false,
-    }
-}
-
-fn to_grow(stage: Stage) -> bool
-    ensures { λ r. ⌜ r ≡ isToGrow stage ⌝ }
-{
-    match stage {
-        Stage::Rest => false,
-        Stage::ToGrow => true,
-        Stage::Merging => false,
-    }
-}
-
-fn is_merging(stage: Stage) -> bool
-    ensures { λ r. ⌜ r ≡ isMerging stage ⌝ }
-{
-    match stage {
-        Stage::Rest => false,
-        Stage::ToGrow => false,
-        Stage::Merging => true,
-    }
-}
-
 // The tests of a round, 21 to 4, in the document's order.
 fn test_round(w: Window, bytes: &[u8], edges: usize, escapes: usize) -> Called
     ensures { λ r. ⌜ told r ≡ unless (roundTests base w (now (bytes .entry)) edges escapes) (done tt 0) ⌝ }
@@ -128,7 +98,7 @@ fn test_round(w: Window, bytes: &[u8], edges: usize, escapes: usize) -> Called
         return Called::Refused(Refusal::NotWellFormed);
     }
     let stage = w.stage;
-    if !at_rest(stage) {
+    if !window::is_rest(stage) {
         return Called::Refused(Refusal::WrongStage);
     }
     if w.next == 4294967295 {
@@ -180,7 +150,7 @@ pub fn grow(w: Window) -> Given
         };
     }
     let stage = w.stage;
-    if !to_grow(stage) {
+    if !window::is_to_grow(stage) {
         return Given {
             answer: Called::Refused(Refusal::WrongStage),
             window: w,
@@ -203,7 +173,7 @@ pub fn merging(w: Window) -> Stepped
         };
     }
     let stage = w.stage;
-    if !is_merging(stage) {
+    if !window::is_merging(stage) {
         return Stepped {
             answer: Merged::Refused(Refusal::WrongStage),
             window: w,
@@ -211,7 +181,7 @@ pub fn merging(w: Window) -> Stepped
     }
     let window = merge::merge(w);
     let after = window.stage;
-    if at_rest(after) {
+    if window::is_rest(after) {
         return Stepped {
             answer: Merged::Rest,
             window,

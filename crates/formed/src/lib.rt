@@ -16,32 +16,12 @@ ghost use Rattle.window.specs.Lists.{every, all};
 ghost use Rattle.window.specs.Window.{isMerging, isToGrow, reach, size};
 ghost use Rattle.window.specs.Formed.{markFits, isZero, unusedNode, pointerFits, nodeFits, isEmpty, slotFits, nodeFitsAt, slotFitsAt, wellFormed};
 
-fn is_merging(stage: Stage) -> bool
-    ensures { λ r. ⌜ r ≡ isMerging stage ⌝ }
-{
-    match stage {
-        Stage::Rest => false,
-        Stage::ToGrow => false,
-        Stage::Merging => true,
-    }
-}
-
-fn is_to_grow(stage: Stage) -> bool
-    ensures { λ r. ⌜ r ≡ isToGrow stage ⌝ }
-{
-    match stage {
-        Stage::Rest => false,
-        Stage::ToGrow => true,
-        Stage::Merging => false,
-    }
-}
-
 // Marks are numbers of nodes, reset only in stage merging.
 fn mark_fits(stage: Stage, marks: usize, mark: Mark) -> bool
     ensures { λ r. ⌜ r ≡ markFits stage marks mark ⌝ }
 {
     match mark {
-        Mark::Reset => is_merging(stage),
+        Mark::Reset => window::is_merging(stage),
         Mark::Root(m) => (m as usize) < marks,
     }
 }
@@ -65,7 +45,7 @@ fn pointer_fits(shape: Shape, stage: Stage, place: Place, g: usize, pointer: u8)
     if way.there {
         return true;
     }
-    ((is_to_grow(stage) & (place.depth as usize + 1 == shape::sheets(shape)))
+    ((window::is_to_grow(stage) & (place.depth as usize + 1 == shape::sheets(shape)))
         & !shape::is_boundary(shape, place.column))
         & (pointer == 5)
 }

@@ -11,7 +11,7 @@ use lib.ListN.{length, getD, set}
 use Rattle.shape.specs.Choice.{if, if-true, if-false}
 use Rattle.shape.specs.Sizes.{sheetsOf, nodesOf}
 use Rattle.shape.specs.Ranges.{Ranged}
-use Rattle.walk.specs.LawsWalk.{slot-node, slot-kind, falls-down}
+use Rattle.walk.specs.LawsWalk.{slot-at, falls-down}
 use Rattle.shape.specs.Nodes.{placeAt}
 use Rattle.shape.specs.Steps.{base}
 use Rattle.shape.specs.declared.Place.{Place}
@@ -69,9 +69,8 @@ module _ (w : Window) (g : ℕ) where
       → v ≡ gains r (getD (w .growth) e 0) n m → v ≡ grownSlot base w e
   unfolding grownSlot base
   slot-by kind p e v q r n m l y z x f a b t =
-      let i : e / 3 ≡ g = ap (λ (j : ℕ). j / 3) y ∙ slot-node g kind l in
-      let k : e % 3 ≡ kind = ap (λ (j : ℕ). j % 3) y ∙ slot-kind g kind l in
-      t ∙ rw (i, k, z, b, a, f, x)
+      let i = slot-at g kind e y l in
+      t ∙ rw (i .0, i .1, z, b, a, f, x)
 
 -- its three slots
 pub three : (w : Window) (g : ℕ) (now : List ℕ) (a b c : ℕ) → 3 * g + 2 < length (w .growth) → now ≡ over (3 * g) (grownSlot base w) (w .growth)

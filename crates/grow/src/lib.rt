@@ -17,15 +17,6 @@ ghost use Rattle.window.specs.Lists.{bit};
 ghost use Rattle.window.specs.Window.{falls};
 ghost use Rattle.window.specs.Grow.{gains, cut, grown};
 
-fn half(active: bool) -> u8
-    ensures { λ r. ⌜ r ≡ bit active ⌝ }
-{
-    if active {
-        return 1;
-    }
-    0
-}
-
 // The halves of the edge over a way, by its two ends.
 fn gain(way: Way, old: u8, node: Node, other: Node) -> u8
     ensures { λ r. ⌜ r ≡ gains way old node other ⌝ }
@@ -36,7 +27,7 @@ fn gain(way: Way, old: u8, node: Node, other: Node) -> u8
     if 2 <= old {
         return 2;
     }
-    let sum = old + half(node.active) + half(other.active);
+    let sum = old + window::bit(node.active) + window::bit(other.active);
     if 2 <= sum {
         return 2;
     }

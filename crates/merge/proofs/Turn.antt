@@ -1,21 +1,19 @@
 -- One turn of the loop over the nodes: what is seen in a direction, the node's step, and its three correction bits. Assumes nothing.
 use Prim.Native.Nat.{ℕ, zero, suc, _+_, _-_, _*_, _/_, _%_, _≤_, _<_}
-use native.Mathlib.Nat.{mul-comm}
 use native.Mathlib.Numerals.{add-one}
 use native.Mathlib.Omega.{arith}
 use mathlib.Core.Path.{_≡_, refl, sym, _∙_, ap, subst}
-use mathlib.Core.Bool.{Bool, false, not, _||_}
+use mathlib.Core.Bool.{Bool, false, not}
 use mathlib.Core.List.{List, [], _∷_}
 use lib.ListN.{length, getD, replicate}
 use Rattle.shape.specs.Choice.{if}
-use Rattle.shape.specs.Sizes.{sheetsOf, boundary, nodesOf}
-use Rattle.shape.specs.Counting.{quotient, rest}
-use Rattle.shape.specs.Nodes.{placeAt, numberOf}
+use Rattle.shape.specs.Sizes.{sheetsOf, boundary}
+use Rattle.shape.specs.Nodes.{numberOf}
 use Rattle.shape.specs.Steps.{base, step, here}
 use Rattle.shape.specs.declared.Place.{Place}
 use Rattle.window.specs.Lists.{byPlace, over, any}
-use Rattle.window.specs.LawsLists.{getD-by, over-all, any-more}
-use Rattle.window.specs.Window.{naming, namer, reach, at, place, size}
+use Rattle.window.specs.LawsLists.{getD-by, over-all}
+use Rattle.window.specs.Window.{namer, reach, at, place, size}
 use Rattle.window.specs.Merging.{nothing, sees, stepped, flipped, seen, stepAt, flippedSlot, merged}
 use Rattle.window.specs.declared.Node.{Node}
 use Rattle.window.specs.declared.Seen.{Seen}
@@ -23,36 +21,13 @@ use Rattle.window.specs.declared.Stage.{Stage}
 use Rattle.window.specs.declared.Stage.the-variants.{Rest, Merging}
 use Rattle.window.specs.declared.Way.{Way}
 use Rattle.window.specs.declared.Window.{Window}
-use Rattle.walk.specs.Walk.{Stands}
-use Rattle.walk.specs.LawsWalk.{stands, peopled}
+use Rattle.walk.specs.LawsWalk.{three-kinds, slot-at}
 
--- the place of a node that is there
-pub stands-here : (h d : ℕ) (q : Place) (g n : ℕ) → g < n → n ≡ nodesOf h d → (1 ≤ h → q ≡ placeAt h d g) → Stands h d q g
-stands-here h d q g n l e p =
-    let r = peopled h d g (subst (λ (m : ℕ). g < m) e l) in
-    subst (λ (t : Place). Stands h d t g) (sym (p (r .h1))) (stands h d r g (subst (λ (m : ℕ). g < m) e l))
-
--- THE TABLE: six steps, three kinds, and who names an edge of each
+-- THE TABLE
 
 six-steps : length (base .steps) ≡ 6
 unfolding base
 six-steps = refl
-
-three-kinds : base .kinds ≡ 3
-unfolding base
-three-kinds = refl
-
-pub names-row : namer base 0 ≡ 3
-unfolding base naming
-names-row = refl
-
-pub names-column : namer base 1 ≡ 4
-unfolding base naming
-names-column = refl
-
-pub names-time : namer base 2 ≡ 6
-unfolding base naming
-names-time = refl
 
 backs : (k : ℕ) → k < 6 → getD (4 ∷ 3 ∷ 2 ∷ 1 ∷ 6 ∷ 5 ∷ []) k 0 ≡ getD (base .steps) k here .back
 unfolding base
@@ -67,13 +42,6 @@ backs (suc (suc (suc (suc (suc (suc k)))))) l = absurd (omega arith)
 -- the direction back
 pub back-of : (k : ℕ) → k < 6 → getD (4 ∷ 3 ∷ 2 ∷ 1 ∷ 6 ∷ 5 ∷ []) k 0 ≡ step base (k + 1) .back
 back-of k l = rw (add-one k) (backs k l)
-
--- the node and the kind of a slot
-slot-node : (g kind x : ℕ) → x ≡ 3 * g + kind → kind < 3 → x / base .kinds ≡ g
-slot-node g kind x e l = rw (three-kinds, e, mul-comm 3 g) (quotient 3 g kind l)
-
-slot-kind : (g kind x : ℕ) → x ≡ 3 * g + kind → kind < 3 → x % base .kinds ≡ kind
-slot-kind g kind x e l = rw (three-kinds, e, mul-comm 3 g) (rest 3 g kind l)
 
 -- ONE NODE
 
@@ -92,17 +60,13 @@ module _ (w : Window) (g : ℕ) (q : Place) (e : q ≡ place w g) where
     pub bit-by : (x kind p : ℕ) → x ≡ 3 * g + kind → kind < 3 → namer base kind ≡ p → p - 1 < 6
         → flipped (getD (w .correction) x false) (not b) (at w g) p (getD ss (p - 1) nothing) ≡ flippedSlot base w x
     unfolding flippedSlot
-    bit-by x kind p f k n l = rw (slot-node g kind x f k, slot-kind g kind x f k, n, d, e, s, getD-by (seen base w g) 6 (p - 1) nothing l)
+    bit-by x kind p f k n l = rw (slot-at g kind x f k .0, slot-at g kind x f k .1, n, d, e, s, getD-by (seen base w g) 6 (p - 1) nothing l)
 
 -- all six directions are seen
 pub seen-all : (f : ℕ → Seen) (k : ℕ) (x : Seen) (ss : List Seen) → 6 ≤ k → k ≤ 6 → ss ≡ over k f (replicate 6 x) → ss ≡ byPlace 6 f
 seen-all f k x ss a b e =
     let s : k ≡ 6 = omega arith in
     rw (e, s, over-all f 6 (replicate 6 x) (omega arith))
-
--- one more node was busy, or not
-pub any-next : (f : ℕ → Bool) (i : ℕ) (b v : Bool) → b ≡ any i f → v ≡ f i → (b || v) ≡ any (i + 1) f
-any-next f i b v p q = rw (any-more f i, p, q)
 
 -- after the last node
 pub merged-by :

@@ -20,15 +20,6 @@ ghost use Rattle.walk.specs.Walk.{Stands};
 ghost use Rattle.window.specs.Lists.{bit};
 ghost use Rattle.window.specs.Round.{edgeSlot, detectorAt, loweredNumber, lowered, sunk, received, committed, escaped, rounded};
 
-fn byte(set: bool) -> u8
-    ensures { λ r. ⌜ r ≡ bit set ⌝ }
-{
-    if set {
-        return 1;
-    }
-    0
-}
-
 // The depth of the bottom sheet.
 fn lowest(shape: Shape) -> u8
     ensures { λ r. ⌜ r ≡ sheetsOf (shape .distance) - 1 ⌝ }
@@ -73,7 +64,7 @@ pub fn commit(w: Window, edges: &mut [u8])
     while i < edges.len() {
         let e = edge_slot(shape, i);
         let set = w.correction[e];
-        edges[i] = byte(set);
+        edges[i] = window::bit(set);
         i += 1;
     }
 }
@@ -104,7 +95,7 @@ pub fn escape(w: Window, escapes: &mut [u8])
     while i < escapes.len() {
         let g = detector_index(shape, i);
         let node = w.nodes[g];
-        escapes[i] = byte(node.defect);
+        escapes[i] = window::bit(node.defect);
         i += 1;
     }
 }

@@ -1,6 +1,6 @@
 -- Laws of the walk through a window. Assumes nothing.
 use Prim.Native.Nat.{ℕ, zero, suc, _+_, _*_, _/_, _%_, _≤_, _<_}
-use native.Mathlib.Nat.{add-mul, one-mul, mul-comm, mod-lt, div-eq-of-lt, mod-eq-of-lt, not-suc-le-zero}
+use native.Mathlib.Nat.{add-mul, one-mul, mod-lt, div-eq-of-lt, mod-eq-of-lt, not-suc-le-zero}
 use native.Mathlib.Omega.{arith}
 use mathlib.Core.Path.{_≡_, refl, sym, _∙_, ap, subst}
 use mathlib.Core.Bool.{Bool, true, false, not}
@@ -10,7 +10,7 @@ use lib.Dec.{eqb}
 use Rattle.shape.specs.Choice.{order, if-false}
 use Rattle.shape.specs.Sizes.{sheetsOf, boundary, inRange, nodesIn, nodesOf}
 use Rattle.shape.specs.Ranges.{Ranged, ranged, nodes-of, sheets-le}
-use Rattle.shape.specs.Counting.{Inside, quotient, rest}
+use Rattle.shape.specs.Counting.{Inside}
 use Rattle.shape.specs.Nodes.{indexOf, placeAt, numberOf}
 use Rattle.shape.specs.Steps.{Table, base, near, slot}
 use Rattle.shape.specs.Proper.{proper-base}
@@ -163,12 +163,14 @@ module _ (T : Table) (h d k p : ℕ) (q : Place) where
 
 -- THE SLOTS of a node, three of them
 
-module _ (g k : ℕ) (l : k < 3) where
-  pub slot-node : (3 * g + k) / 3 ≡ g
-  slot-node = ap (λ (n : ℕ). (n + k) / 3) (mul-comm 3 g) ∙ quotient 3 g k l
+pub three-kinds : base .kinds ≡ 3
+unfolding base
+three-kinds = refl
 
-  pub slot-kind : (3 * g + k) % 3 ≡ k
-  slot-kind = ap (λ (n : ℕ). (n + k) % 3) (mul-comm 3 g) ∙ rest 3 g k l
+-- the node and the kind of a slot
+pub slot-at : (g kind e : ℕ) → e ≡ 3 * g + kind → kind < 3 → (e / base .kinds ≡ g) × (e % base .kinds ≡ kind)
+unfolding base
+slot-at g kind e f l = (omega arith, omega arith)
 
 -- IN A LOOP over the nodes, whose place is known where there are rows
 

@@ -138,6 +138,9 @@ module _ (f : ℕ → Bool) where
   unfolding any
   any-more i = rw (add-one i)
 
+  pub any-next : (i : ℕ) (b v : Bool) → b ≡ any i f → v ≡ f i → (b || v) ≡ any (i + 1) f
+  any-next i b v p q = rw (any-more i, p, q)
+
 -- TESTS OF ALL ENTRIES
 
 module _ {ℓ} {A : Type ℓ} (f : A → Bool) where

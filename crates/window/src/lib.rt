@@ -2,7 +2,8 @@
 use refusal::Refusal;
 use shape::Shape;
 ghost use mathlib.Core.Path.{_≡_};
-ghost use Rattle.window.specs.Window.{alone as aloneOf};
+ghost use Rattle.window.specs.Lists.{bit as bitOf};
+ghost use Rattle.window.specs.Window.{alone as aloneOf, isRest, isToGrow, isMerging};
 
 // A node's cluster mark: reset, or the number of a root.
 pub enum Mark {
@@ -89,4 +90,44 @@ pub fn alone(mark: u16, defect: bool) -> Node
         pointer: 0,
         mark: Mark::Root(mark),
     }
+}
+
+pub fn is_rest(stage: Stage) -> bool
+    ensures { λ r. ⌜ r ≡ isRest stage ⌝ }
+{
+    match stage {
+        Stage::Rest => true,
+        Stage::ToGrow => false,
+        Stage::Merging => false,
+    }
+}
+
+pub fn is_to_grow(stage: Stage) -> bool
+    ensures { λ r. ⌜ r ≡ isToGrow stage ⌝ }
+{
+    match stage {
+        Stage::Rest => false,
+        Stage::ToGrow => true,
+        Stage::Merging => false,
+    }
+}
+
+pub fn is_merging(stage: Stage) -> bool
+    ensures { λ r. ⌜ r ≡ isMerging stage ⌝ }
+{
+    match stage {
+        Stage::Rest => false,
+        Stage::ToGrow => false,
+        Stage::Merging => true,
+    }
+}
+
+// A bit as a number.
+pub fn bit(set: bool) -> u8
+    ensures { λ r. ⌜ r ≡ bitOf set ⌝ }
+{
+    if set {
+        return 1;
+    }
+    0
 }

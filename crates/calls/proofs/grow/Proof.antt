@@ -10,7 +10,7 @@ use Rattle.calls.proofs.grow.Statement.{statement}
 use Rattle.calls.proofs.grow.Tie as tie
 use Rattle.calls.proofs.grow.Reads as reads
 use Rattle.calls.proofs.grow.Lts as lts
-use Rattle.calls.proofs.to_grow.Reads as to-grow-reads
+use Rattle.window.proofs.is_to_grow.Reads as is-to-grow-reads
 use Rattle.formed.proofs.well_formed.Reads as well-formed-reads
 use Rattle.grow.proofs.grow.Reads as grow-reads
 use Rattle.refusal.specs.Answer.{done, itself}
@@ -31,13 +31,13 @@ unfolding growCall
 returns c = leaves-refused (stateTests base (c .before .before .args .w) (isToGrow (c .before .before .args .w .stage))) (grown base (c .before .before .args .w)) itself (c .before .before .args .w) 21 (not-formed (c .before .before .args .w) (isToGrow (c .before .before .args .w .stage)) (sym (c .before .well-formed .ensures) ∙ not-true _ (c .if1 .taken)))
 
 -- src/lib.rt:181:9
-to-grow-requires : tie.Need-to-grow-requires
-to-grow-requires c κs = search needs
+is-to-grow-requires : tie.Need-is-to-grow-requires
+is-to-grow-requires c κs = search needs
 
 -- src/lib.rt:182:9
 returns-2 : tie.Need-returns-2
 unfolding growCall
-returns-2 c = leaves-refused (stateTests base (c .before .before .before .before .args .w) (isToGrow (c .before .before .before .before .args .w .stage))) (grown base (c .before .before .before .before .args .w)) itself (c .before .before .before .before .args .w) 22 (not-stage (c .before .before .before .before .args .w) (isToGrow (c .before .before .before .before .args .w .stage)) (sym (c .before .before .before .well-formed .ensures) ∙ not-false _ (c .before .before .if1 .left)) (sym (c .before .to-grow .ensures) ∙ not-true _ (c .if2 .taken)))
+returns-2 c = leaves-refused (stateTests base (c .before .before .before .before .args .w) (isToGrow (c .before .before .before .before .args .w .stage))) (grown base (c .before .before .before .before .args .w)) itself (c .before .before .before .before .args .w) 22 (not-stage (c .before .before .before .before .args .w) (isToGrow (c .before .before .before .before .args .w .stage)) (sym (c .before .before .before .well-formed .ensures) ∙ not-false _ (c .before .before .if1 .left)) (sym (c .before .is-to-grow .ensures) ∙ not-true _ (c .if2 .taken)))
 
 -- src/lib.rt:189:17
 grow-requires : tie.Need-grow-requires
@@ -46,9 +46,9 @@ grow-requires c κs = search needs
 -- src/lib.rt:171:1
 returns-3 : tie.Need-returns-3
 unfolding growCall
-returns-3 c = ap (λ (v : Window). given (done tt 0) v) (c .grow .ensures) ∙ leaves-done (stateTests base (c .before .before .before .before .before .args .w) (isToGrow (c .before .before .before .before .before .args .w .stage))) (grown base (c .before .before .before .before .before .args .w)) itself (c .before .before .before .before .before .args .w) (both-fine (c .before .before .before .before .before .args .w) (isToGrow (c .before .before .before .before .before .args .w .stage)) (sym (c .before .before .before .before .well-formed .ensures) ∙ not-false _ (c .before .before .before .if1 .left)) (sym (c .before .before .to-grow .ensures) ∙ not-false _ (c .before .if2 .left)))
+returns-3 c = ap (λ (v : Window). given (done tt 0) v) (c .grow .ensures) ∙ leaves-done (stateTests base (c .before .before .before .before .before .args .w) (isToGrow (c .before .before .before .before .before .args .w .stage))) (grown base (c .before .before .before .before .before .args .w)) itself (c .before .before .before .before .before .args .w) (both-fine (c .before .before .before .before .before .args .w) (isToGrow (c .before .before .before .before .before .args .w .stage)) (sym (c .before .before .before .before .well-formed .ensures) ∙ not-false _ (c .before .before .before .if1 .left)) (sym (c .before .before .is-to-grow .ensures) ∙ not-false _ (c .before .if2 .left)))
 
 pub grow-spec : {M : Type 1} → statement M
 grow-spec =
     tie.close
-    (tie.spec well-formed-requires returns to-grow-requires returns-2 grow-requires returns-3)
+    (tie.spec well-formed-requires returns is-to-grow-requires returns-2 grow-requires returns-3)

@@ -10,8 +10,8 @@ use Rattle.calls.proofs.merging.Statement.{statement}
 use Rattle.calls.proofs.merging.Tie as tie
 use Rattle.calls.proofs.merging.Reads as reads
 use Rattle.calls.proofs.merging.Lts as lts
-use Rattle.calls.proofs.at_rest.Reads as at-rest-reads
-use Rattle.calls.proofs.is_merging.Reads as is-merging-reads
+use Rattle.window.proofs.is_rest.Reads as is-rest-reads
+use Rattle.window.proofs.is_merging.Reads as is-merging-reads
 use Rattle.formed.proofs.well_formed.Reads as well-formed-reads
 use Rattle.merge.proofs.merge.Reads as merge-reads
 use Rattle.shape.specs.Steps.{base}
@@ -43,16 +43,16 @@ merge-requires : tie.Need-merge-requires
 merge-requires c κs = search needs
 
 -- src/lib.rt:212:8
-at-rest-requires : tie.Need-at-rest-requires
-at-rest-requires c κs = search needs
+is-rest-requires : tie.Need-is-rest-requires
+is-rest-requires c κs = search needs
 
 -- src/lib.rt:213:9
 returns-3 : tie.Need-returns-3
-returns-3 c = merging-by (c .before .before .before .before .before .before .before .args .w) (c .before .before .merge .result) true (sym (c .before .before .before .before .before .before .well-formed .ensures) ∙ not-false _ (c .before .before .before .before .before .if1 .left)) (sym (c .before .before .before .before .is-merging .ensures) ∙ not-false _ (c .before .before .before .if2 .left)) (c .before .before .merge .ensures) (sym (c .if3 .taken) ∙ c .before .at-rest .ensures)
+returns-3 c = merging-by (c .before .before .before .before .before .before .before .args .w) (c .before .before .merge .result) true (sym (c .before .before .before .before .before .before .well-formed .ensures) ∙ not-false _ (c .before .before .before .before .before .if1 .left)) (sym (c .before .before .before .before .is-merging .ensures) ∙ not-false _ (c .before .before .before .if2 .left)) (c .before .before .merge .ensures) (sym (c .if3 .taken) ∙ c .before .is-rest .ensures)
 
 -- src/lib.rt:194:1
 returns-4 : tie.Need-returns-4
-returns-4 c = merging-by (c .before .before .before .before .before .before .before .args .w) (c .before .before .merge .result) false (sym (c .before .before .before .before .before .before .well-formed .ensures) ∙ not-false _ (c .before .before .before .before .before .if1 .left)) (sym (c .before .before .before .before .is-merging .ensures) ∙ not-false _ (c .before .before .before .if2 .left)) (c .before .before .merge .ensures) (sym (c .if3 .left) ∙ c .before .at-rest .ensures)
+returns-4 c = merging-by (c .before .before .before .before .before .before .before .args .w) (c .before .before .merge .result) false (sym (c .before .before .before .before .before .before .well-formed .ensures) ∙ not-false _ (c .before .before .before .before .before .if1 .left)) (sym (c .before .before .before .before .is-merging .ensures) ∙ not-false _ (c .before .before .before .if2 .left)) (c .before .before .merge .ensures) (sym (c .if3 .left) ∙ c .before .is-rest .ensures)
 
 pub merging-spec : {M : Type 1} → statement M
 merging-spec =
@@ -63,6 +63,6 @@ merging-spec =
     is-merging-requires
     returns-2
     merge-requires
-    at-rest-requires
+    is-rest-requires
     returns-3
     returns-4)

@@ -12,12 +12,12 @@ use Rattle.shape.specs.Ranges.{both}
 use Rattle.shape.specs.Steps.{base}
 use Rattle.shape.specs.declared.Place.{Place}
 use Rattle.walk.specs.Walk.{Stands}
-use Rattle.walk.specs.LawsWalk.{first-place, walks, stands, peopled, nodes-max, depth-low}
+use Rattle.walk.specs.LawsWalk.{first-place, walks, stands, peopled, nodes-max, depth-low, three-kinds, named-east, named-south, named-up}
 use Rattle.window.specs.declared.Node.{Node}
 use Rattle.window.specs.declared.Window.{Window}
 use Rattle.window.specs.Lists.{every}
 use Rattle.window.specs.LawsLists.{and-no, and-not, every-none, every-more, every-fails}
-use Rattle.window.specs.Window.{beyond, namer, naming, reach, size, at, place}
+use Rattle.window.specs.Window.{beyond, namer, reach, size, at, place}
 use Rattle.window.specs.Formed.{nodeFits, slotFits, nodeFitsAt, slotFitsAt}
 use Rattle.formed.proofs.used_fit.Statement.{statement}
 use Rattle.formed.proofs.used_fit.Tie as tie
@@ -42,23 +42,6 @@ module _ (w : Window) (g : ℕ) where
   all-fit e p q =
       sym (both (every (size w) (nodeFitsAt base w)) (every (size w) (slotsFitAt w)) (subst (λ (k : ℕ). every k (nodeFitsAt base w) ≡ true) e p) (subst (λ (k : ℕ). every k (slotsFitAt w) ≡ true) e q))
 
--- a node names its edges by E, S and U
-three : base .kinds ≡ 3
-unfolding base
-three = refl
-
-names-row : namer base 0 ≡ 3
-unfolding base naming
-names-row = refl
-
-names-column : namer base 1 ≡ 4
-unfolding base naming
-names-column = refl
-
-names-time : namer base 2 ≡ 6
-unfolding base naming
-names-time = refl
-
 module _ (w : Window) (g : ℕ) (q : Place) (e : q ≡ place w g) where
   node-fits-at : (n : Node) (a : Bool) → n ≡ at w g → a ≡ nodeFits base (w .stage) (w .shape .height) (w .shape .distance) q n → a ≡ nodeFitsAt base w g
   node-fits-at n a f p = rw (← e, ← f) p
@@ -70,12 +53,12 @@ module _ (w : Window) (g : ℕ) (q : Place) (e : q ≡ place w g) where
 
   slot-at : (kind p i : ℕ) → namer base kind ≡ p → i ≡ 3 * g + kind → slotBy p i ≡ slotFitsAt base w g kind
   unfolding slotFitsAt
-  slot-at kind p i f k = rw (f, three, ← e, k)
+  slot-at kind p i f k = rw (f, three-kinds, ← e, k)
 
   slots-fit-at : (a b c : Bool) → a ≡ slotBy 3 (3 * g) → b ≡ slotBy 4 (3 * g + 1) → c ≡ slotBy 6 (3 * g + 2) → a && b && c ≡ slotsFitAt w g
   unfolding every
   slots-fit-at a b c k l m =
-      rw (k ∙ slot-at 0 3 (3 * g) names-row (sym (add-zero (3 * g))), l ∙ slot-at 1 4 (3 * g + 1) names-column refl, m ∙ slot-at 2 6 (3 * g + 2) names-time refl)
+      rw (k ∙ slot-at 0 3 (3 * g) named-east (sym (add-zero (3 * g))), l ∙ slot-at 1 4 (3 * g + 1) named-south refl, m ∙ slot-at 2 6 (3 * g + 2) named-up refl)
 
 -- the first g nodes and their slots have passed, and the walk stands at the next
 record Passed (w : Window) (n : ℕ) (q : Place) (g : ℕ) : Type 0 where

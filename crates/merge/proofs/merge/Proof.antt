@@ -9,16 +9,15 @@ use lib.ListN.{length, drop, getD, set, length-map, length-set}
 use lib.ListN.{replicate}
 use Rattle.shape.specs.Steps.{base}
 use Rattle.window.specs.Lists.{over, any}
-use Rattle.window.specs.LawsLists.{over-none, over-next, over-three, any-none}
+use Rattle.window.specs.LawsLists.{over-none, over-next, over-three, any-none, any-next}
 use Rattle.window.specs.Window.{place, size}
 use Rattle.window.specs.declared.Seen.{Seen}
 use Rattle.window.specs.declared.Stepped.{Stepped}
 use Rattle.window.specs.declared.Way.{Way}
 use Rattle.walk.specs.Walk.{Stands}
 use Rattle.window.specs.Merging.{nothing, merged, stepAt, flippedSlot, seen as seenFrom}
-use Rattle.walk.specs.LawsWalk.{first-place, walks, stands-low, depth-low}
-use Rattle.merge.proofs.Bounds.{way-low}
-use Rattle.merge.proofs.Turn.{stands-here, merged-by, names-row, names-column, names-time, seen-by, step-by, bit-by, seen-all, any-next}
+use Rattle.walk.specs.LawsWalk.{first-place, stands-at, walks, stands-low, depth-low, ends-low, named-east, named-south, named-up}
+use Rattle.merge.proofs.Turn.{merged-by, seen-by, step-by, bit-by, seen-all}
 use Rattle.merge.proofs.merge.Statement.{statement}
 use Rattle.merge.proofs.merge.Tie as tie
 use Rattle.merge.proofs.merge.Reads as reads
@@ -57,7 +56,7 @@ nodes-requires c κs = search needs
 -- THE FACTS OF A TURN
 
 turn : (c : tie.In-loop Inv-look μ-look Inv-loop μ-loop) → Stands (c .before .before .before .before .before .before .args .t1 .shape .height) (c .before .before .before .before .before .before .args .t1 .shape .distance) (c .before .loop .place) (c .before .loop .g)
-turn c = stands-here _ _ _ _ _ (c .loop-test .taken) (c .before .before .before .before .nodes .ensures) (c .before .loop .inv .1)
+turn c = stands-at _ _ _ _ _ (c .before .before .before .before .nodes .ensures) (c .loop-test .taken) (c .before .loop .inv .1)
 
 low : (c : tie.In-loop Inv-look μ-look Inv-loop μ-loop) → c .before .loop .g < 3600
 low c = stands-low _ _ _ _ (turn c)
@@ -67,7 +66,7 @@ stood : (c : tie.In-loop Inv-look μ-look Inv-loop μ-loop) → c .before .loop 
 stood c = c .before .loop .inv .1 (turn c .ranged .h1)
 
 way : (c : tie.After-reach Inv-look μ-look Inv-loop μ-loop) → (c .reach .result .node < 3600) × (c .reach .result .slot < 10800)
-way c = subst (λ (y : Way). (y .node < 3600) × (y .slot < 10800)) (sym (c .reach .ensures)) (way-low _ _ _ _ (turn (c .before .before .before .before) .ranged))
+way c = ends-low _ _ _ _ _ (turn (c .before .before .before .before) .ranged) (c .reach .ensures)
 
 nodes-length : (c : tie.Start Inv-look μ-look Inv-loop μ-loop) → length (c .args .t1 .nodes) ≡ 3600
 nodes-length c = simp length-map at (c .good .0 .1 .1 .1 .1 .1 .0 .1 .0 .1)
@@ -267,9 +266,9 @@ loop-again c =
     let ss = seen-all (seenFrom base w g) (k .k) nothing (k .seen) (c .before .before .before .before .before .before .before .before .before .before .before .before .before .before .before .look-test .left) (k .inv .0) (k .inv .1) in
     let r = c .before .before .before .before .before .before .before .before .before .before .before .before .node-step .ensures ∙ step-by w g _ (stood i) (b .result) (b .ensures) (k .seen) ss in
     let bit = bit-by w g _ (stood i) (b .result) (b .ensures) (k .seen) ss in
-    let x = c .before .before .before .before .before .before .before .flip .ensures ∙ bit (3 * g) 0 3 (omega arith) (omega arith) names-row (omega arith) in
-    let y = c .before .before .before .before .flip2 .ensures ∙ bit (3 * g + 1) 1 4 (omega arith) (omega arith) names-column (omega arith) in
-    let z = c .before .flip3 .ensures ∙ bit (3 * g + 2) 2 6 (omega arith) (omega arith) names-time (omega arith) in
+    let x = c .before .before .before .before .before .before .before .flip .ensures ∙ bit (3 * g) 0 3 (omega arith) (omega arith) named-east (omega arith) in
+    let y = c .before .before .before .before .flip2 .ensures ∙ bit (3 * g + 1) 1 4 (omega arith) (omega arith) named-south (omega arith) in
+    let z = c .before .flip3 .ensures ∙ bit (3 * g + 2) 2 6 (omega arith) (omega arith) named-up (omega arith) in
     let h : g < length (w .nodes) = omega (arith, low i, nodes-length s) in
     let j : 3 * g + 2 < length (w .correction) = omega (arith, low i, correction-length s) in
     let e : 3 * g + 3 ≡ 3 * (g + 1) = omega arith in

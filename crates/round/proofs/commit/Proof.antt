@@ -51,8 +51,8 @@ edge-slot-requires c κs = let s = c .before .before .before .before in let l = 
 element-copy-out-set : tie.Need-element-copy-out-set Inv-loop μ-loop
 element-copy-out-set c = let s = c .before .before .before .before .before in let l = c .before .before .loop in let e = long (s .args .t1) (s .args .edges .now) (l .edges) (l .i) (l .inv) in let w = s .args .t1 .shape in let k : l .i < layerEdgesOf (w .height) (w .distance) = omega (arith, e, c .before .loop-test .taken, s .pre .1) in omega (arith, edge-low _ _ (ranged (w .height) (w .distance) (s .pre .0)) (l .i) k, c .edge-slot .ensures)
 
-byte-requires : tie.Need-byte-requires Inv-loop μ-loop
-byte-requires c κs = search needs
+bit-requires : tie.Need-bit-requires Inv-loop μ-loop
+bit-requires c κs = search needs
 
 slice-write-edges : tie.Need-slice-write-edges Inv-loop μ-loop
 slice-write-edges c = c .before .before .before .loop-test .taken
@@ -64,7 +64,7 @@ loop-less : tie.Need-loop-less Inv-loop μ-loop
 loop-less c = let s = c .before .before .before .before .before .before .before in let l = c .before .before .before .before .loop in let e = long (s .args .t1) (s .args .edges .now) (l .edges) (l .i) (l .inv) in omega (arith, e, c .before .before .before .loop-test .taken)
 
 loop-again : tie.Need-loop-again Inv-loop μ-loop
-loop-again c = let s = c .before .before .before .before .before .before .before in let l = c .before .before .before .before .loop in let e = long (s .args .t1) (s .args .edges .now) (l .edges) (l .i) (l .inv) in (omega (arith, e, c .before .before .before .loop-test .taken), over-next (rule (s .args .t1)) (s .args .edges .now) (l .i) (l .edges) _ (omega (arith, e, c .before .before .before .loop-test .taken)) (l .inv .1) (turn (s .args .t1) (l .i) _ _ (c .before .before .edge-slot .ensures) (c .byte .ensures)))
+loop-again c = let s = c .before .before .before .before .before .before .before in let l = c .before .before .before .before .loop in let e = long (s .args .t1) (s .args .edges .now) (l .edges) (l .i) (l .inv) in (omega (arith, e, c .before .before .before .loop-test .taken), over-next (rule (s .args .t1)) (s .args .edges .now) (l .i) (l .edges) _ (omega (arith, e, c .before .before .before .loop-test .taken)) (l .inv .1) (turn (s .args .t1) (l .i) _ _ (c .before .before .edge-slot .ensures) (c .bit .ensures)))
 
 same-length : tie.Need-same-length Inv-loop μ-loop
 same-length c = let s = c .before .before .before .before in let l = c .before .loop in let e = long (s .args .t1) (s .args .edges .now) (l .edges) (l .i) (l .inv) in e
@@ -81,7 +81,7 @@ commit-spec =
     loop-holds
     edge-slot-requires
     element-copy-out-set
-    byte-requires
+    bit-requires
     slice-write-edges
     add-i
     loop-less

@@ -53,8 +53,8 @@ mul-node c = let s = c .before .before .before .before .before in let l = c .bef
 element-copy-out-node : tie.Need-element-copy-out-node Inv-loop μ-loop
 element-copy-out-node c = let s = c .before .before .before .before .before in let l = c .before .before .loop in let e = long (s .args .t1) (s .args .escapes .now) (l .escapes) (l .i) (l .inv) in let w = s .args .t1 .shape in let k : l .i < detectorsOf (w .height) (w .distance) = omega (arith, e, c .before .loop-test .taken, s .pre .1) in omega (arith, detector-low _ _ (ranged (w .height) (w .distance) (s .pre .0)) (l .i) k, c .detector-index .ensures)
 
-byte-requires : tie.Need-byte-requires Inv-loop μ-loop
-byte-requires c κs = search needs
+bit-requires : tie.Need-bit-requires Inv-loop μ-loop
+bit-requires c κs = search needs
 
 slice-write-escapes : tie.Need-slice-write-escapes Inv-loop μ-loop
 slice-write-escapes c = c .before .before .before .loop-test .taken
@@ -66,7 +66,7 @@ loop-less : tie.Need-loop-less Inv-loop μ-loop
 loop-less c = let s = c .before .before .before .before .before .before .before in let l = c .before .before .before .before .loop in let e = long (s .args .t1) (s .args .escapes .now) (l .escapes) (l .i) (l .inv) in omega (arith, e, c .before .before .before .loop-test .taken)
 
 loop-again : tie.Need-loop-again Inv-loop μ-loop
-loop-again c = let s = c .before .before .before .before .before .before .before in let l = c .before .before .before .before .loop in let e = long (s .args .t1) (s .args .escapes .now) (l .escapes) (l .i) (l .inv) in (omega (arith, e, c .before .before .before .loop-test .taken), over-next (rule (s .args .t1)) (s .args .escapes .now) (l .i) (l .escapes) _ (omega (arith, e, c .before .before .before .loop-test .taken)) (l .inv .1) (turn (s .args .t1) (l .i) _ _ (c .before .before .detector-index .ensures) (c .byte .ensures)))
+loop-again c = let s = c .before .before .before .before .before .before .before in let l = c .before .before .before .before .loop in let e = long (s .args .t1) (s .args .escapes .now) (l .escapes) (l .i) (l .inv) in (omega (arith, e, c .before .before .before .loop-test .taken), over-next (rule (s .args .t1)) (s .args .escapes .now) (l .i) (l .escapes) _ (omega (arith, e, c .before .before .before .loop-test .taken)) (l .inv .1) (turn (s .args .t1) (l .i) _ _ (c .before .before .detector-index .ensures) (c .bit .ensures)))
 
 same-length : tie.Need-same-length Inv-loop μ-loop
 same-length c = let s = c .before .before .before .before in let l = c .before .loop in let e = long (s .args .t1) (s .args .escapes .now) (l .escapes) (l .i) (l .inv) in e
@@ -84,7 +84,7 @@ escape-spec =
     detector-index-requires
     mul-node
     element-copy-out-node
-    byte-requires
+    bit-requires
     slice-write-escapes
     add-i
     loop-less

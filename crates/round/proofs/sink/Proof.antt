@@ -14,7 +14,7 @@ use Rattle.shape.specs.Ranges.{Ranged}
 use Rattle.shape.specs.Steps.{base}
 use Rattle.shape.specs.declared.Place.{Place}
 use Rattle.walk.specs.Walk.{Stands, placeAfter}
-use Rattle.walk.specs.LawsWalk.{first-place, walks, stands, peopled, nodes-max, depth-low}
+use Rattle.walk.specs.LawsWalk.{first-place, walks, stands-at, nodes-max, depth-low}
 use Rattle.window.specs.Lists.{over}
 use Rattle.window.specs.LawsLists.{over-none, over-next, over-three}
 use Rattle.window.specs.Window.{sheet, at, place}
@@ -42,17 +42,14 @@ starts w bytes n e =
 module _ (w : Window) (bytes : List ℕ) (n : ℕ) (nodes : List Node) (growth : List ℕ) (correction : List Bool) (q : Place) (g : ℕ)
     (v : Sinking w bytes n nodes growth correction q g) (size : n ≡ nodesOf (w .shape .height) (w .shape .distance)) where
   module _ (l : g < n) where
-    inside : g < nodesOf (w .shape .height) (w .shape .distance)
-    inside = omega arith
+    standing : Stands (w .shape .height) (w .shape .distance) q g
+    standing = stands-at (w .shape .height) (w .shape .distance) q n g size l (v .2)
 
     range : Ranged (w .shape .height) (w .shape .distance)
-    range = peopled (w .shape .height) (w .shape .distance) g inside
+    range = standing .ranged
 
     here : q ≡ place w g
     here = v .2 (range .h1)
-
-    standing : Stands (w .shape .height) (w .shape .distance) q g
-    standing = rw here (stands (w .shape .height) (w .shape .distance) range g inside)
 
     module _ (full : length (w .nodes) ≡ 3600) (full-growth : length (w .growth) ≡ 10800) (full-correction : length (w .correction) ≡ 10800) (k a : ℕ) (s : k ≡ sheet w) (up : a ≡ g - k) where
       above-is : a ≡ g - sheet w
