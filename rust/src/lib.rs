@@ -1,9 +1,14 @@
 //! A second opinion on the proved streams: `streams` says what document 01 asks for, `proved` calls the
-//! archive, and `compare` holds every answer and every byte of the one against the other.
+//! archive, and `compare` holds every answer and every byte of the one against the other. `decoder` is a second
+//! decoder; `replay` plays the stored script of `crates/replay` on it, which `script` writes.
 
 pub mod cases;
 pub mod compare;
+pub mod decoder;
+pub mod image;
 pub mod proved;
 pub mod random;
+pub mod replay;
+pub mod script;
 pub mod streams;
 pub mod tally;

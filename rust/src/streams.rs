@@ -26,8 +26,8 @@ pub const DISTANCES: RangeInclusive<u32> = 2..=15;
 /// A height and a distance in range.
 #[derive(Debug, Clone, Copy)]
 pub struct Shape {
-    height: usize,
-    distance: usize,
+    pub height: usize,
+    pub distance: usize,
 }
 
 impl Shape {

@@ -1,0 +1,395 @@
+//! A second decoder, written from document 01 alone. The window is a queue of layers, the top one first: a round takes
+//! the last one out and puts a new one in front. A mark is a root by its round, so falling leaves it as it is.
+
+use crate::streams::{self, Done, Shape, Stop};
+use std::cmp::Reverse;
+use std::collections::VecDeque;
+use std::sync::Arc;
+
+/// The directions, in the scan order.
+#[derive(Debug, Clone, Copy, PartialEq, Eq, PartialOrd, Ord)]
+pub enum Way {
+    North,
+    West,
+    East,
+    South,
+    Down,
+    Up,
+}
+
+#[derive(Debug, Clone, Copy, PartialEq, Eq)]
+pub enum Stage {
+    Rest,
+    ToGrow,
+    Merging,
+}
+
+/// A root. Its order is that of the document's numbers: boundary nodes precede detectors, and higher precedes lower.
+#[derive(Debug, Clone, Copy, PartialEq, Eq, PartialOrd, Ord)]
+pub struct Root {
+    detector: bool,
+    round: Reverse<i64>,
+    row: usize,
+    column: usize,
+}
+
+/// No pointer is C, no mark is reset.
+#[derive(Debug, Clone, PartialEq, Eq)]
+pub struct Node {
+    pub active: bool,
+    pub defect: bool,
+    pub unrooted: bool,
+    pub pointer: Option<Way>,
+    pub mark: Option<Root>,
+}
+
+#[derive(Debug, Clone, Default, PartialEq, Eq)]
+pub struct Edge {
+    pub halves: u8,
+    pub correction: bool,
+}
+
+/// A sheet's nodes, row by row, and its layer's edges by their numbers.
+#[derive(Debug, Clone, PartialEq, Eq)]
+pub struct Layer {
+    pub nodes: Vec<Node>,
+    pub edges: Vec<Edge>,
+}
+
+/// An edge of a layer: its west, north or lower end, and its other end, which stands one sheet above for a time edge.
+#[derive(Debug, Clone, Copy)]
+pub struct Span {
+    pub kind: usize,
+    pub near: usize,
+    pub far: usize,
+    pub above: bool,
+}
+
+/// A node's edge in one direction: the sheets down to its other end and to the layer that has it.
+#[derive(Debug, Clone, Copy)]
+struct Link {
+    way: Way,
+    node: usize,
+    sheets: isize,
+    edge: usize,
+    layers: isize,
+}
+
+/// What all sheets of a shape have in common.
+#[derive(Debug)]
+pub struct Sheet {
+    pub shape: Shape,
+    pub spans: Vec<Span>,
+    links: Vec<Vec<Link>>,
+}
+
+impl Sheet {
+    pub fn new(shape: Shape) -> Sheet {
+        let (h, d) = (shape.height, shape.distance);
+        let node = |row: usize, column: usize| row * (d + 1) + column;
+        let mut spans = vec![];
+        for row in 0..h {
+            spans.extend((0..d).map(|c| Span { kind: 0, near: node(row, c), far: node(row, c + 1), above: false }));
+        }
+        for row in 1..h {
+            spans.extend((1..d).map(|c| Span { kind: 1, near: node(row - 1, c), far: node(row, c), above: false }));
+        }
+        for row in 0..h {
+            spans.extend((1..d).map(|c| Span { kind: 2, near: node(row, c), far: node(row, c), above: true }));
+        }
+        assert_eq!(spans.len(), shape.edges());
+
+        let mut links = vec![vec![]; h * (d + 1)];
+        for (edge, span) in spans.iter().enumerate() {
+            let (there, back) = [(Way::East, Way::West), (Way::South, Way::North), (Way::Up, Way::Down)][span.kind];
+            let up = isize::from(span.above);
+            links[span.near].push(Link { way: there, node: span.far, sheets: -up, edge, layers: 0 });
+            links[span.far].push(Link { way: back, node: span.near, sheets: up, edge, layers: up });
+        }
+        links.iter_mut().for_each(|of_node| of_node.sort_by_key(|link| link.way));
+        Sheet { shape, spans, links }
+    }
+
+    /// The sheets of a window.
+    pub fn sheets(&self) -> usize {
+        2 * (self.shape.distance / 2) + 1
+    }
+
+    pub fn nodes(&self) -> usize {
+        self.links.len()
+    }
+
+    pub fn detector(&self, node: usize) -> bool {
+        let column = node % (self.shape.distance + 1);
+        0 < column && column < self.shape.distance
+    }
+
+    /// The detectors, row by row.
+    fn detectors(&self) -> impl Iterator<Item = usize> + '_ {
+        (0..self.nodes()).filter(|&node| self.detector(node))
+    }
+
+    /// The document's number of a node.
+    pub fn number(&self, depth: usize, node: usize) -> usize {
+        let (h, d, s) = (self.shape.height, self.shape.distance, self.sheets());
+        let (row, column) = (node / (d + 1), node % (d + 1));
+        if self.detector(node) {
+            2 * h * (s + 1) + h * (d - 1) * depth + (d - 1) * row + column - 1
+        } else {
+            2 * h * depth + 2 * row + usize::from(column == d)
+        }
+    }
+
+    fn root(&self, round: i64, node: usize) -> Root {
+        let width = self.shape.distance + 1;
+        Root { detector: self.detector(node), round: Reverse(round), row: node / width, column: node % width }
+    }
+
+    fn fresh(&self, round: i64) -> Layer {
+        let alone = |node| Node {
+            active: false,
+            defect: false,
+            unrooted: false,
+            pointer: None,
+            mark: Some(self.root(round, node)),
+        };
+        Layer { nodes: (0..self.nodes()).map(alone).collect(), edges: vec![Edge::default(); self.spans.len()] }
+    }
+}
+
+#[derive(Debug, Clone)]
+pub struct Window {
+    pub sheet: Arc<Sheet>,
+    pub stage: Stage,
+    pub next: u32,
+    pub layers: VecDeque<Layer>,
+}
+
+/// How a run ended, with the count of steps.
+#[derive(Debug, Clone, Copy, PartialEq, Eq)]
+pub enum Ran {
+    Rest(u32),
+    Spent(u32),
+}
+
+fn refuse(bad: bool, number: u8) -> Result<(), u8> {
+    if bad {
+        Err(number)
+    } else {
+        Ok(())
+    }
+}
+
+/// The number of a refusal.
+fn number_of(stop: Stop) -> u8 {
+    match stop {
+        Stop::Refused(number) | Stop::RefusedAt(number, _) => number,
+        Stop::End => unreachable!("the end is no refusal"),
+    }
+}
+
+// Every window here is well-formed: 21 is for whoever reads one from elsewhere.
+impl Window {
+    pub fn fresh(height: u32, distance: u32) -> Result<Window, u8> {
+        let sheet = Arc::new(Sheet::new(Shape::new(height, distance).map_err(number_of)?));
+        let next = sheet.sheets() as u32;
+        let layers = (0..i64::from(next)).rev().map(|round| sheet.fresh(round)).collect();
+        Ok(Window { sheet, stage: Stage::Rest, next, layers })
+    }
+
+    /// The round that a depth holds; the ghost sheet's depth is one more than the bottom's.
+    fn round_at(&self, depth: usize) -> i64 {
+        i64::from(self.next) - 1 - depth as i64
+    }
+
+    pub fn root(&self, depth: usize, node: usize) -> Root {
+        self.sheet.root(self.round_at(depth), node)
+    }
+
+    /// The document's number of a root.
+    pub fn number(&self, root: Root) -> usize {
+        let depth = self.round_at(0) - root.round.0;
+        self.sheet.number(depth as usize, root.row * (self.sheet.shape.distance + 1) + root.column)
+    }
+
+    fn bottom(&self) -> usize {
+        self.layers.len() - 1
+    }
+
+    /// A node's edges, in the scan order: the direction, the node there, and the edge.
+    pub fn links(&self, depth: usize, node: usize) -> impl Iterator<Item = (Way, [usize; 2], [usize; 2])> + '_ {
+        self.sheet.links[node].iter().filter_map(move |link| {
+            let there = depth.checked_add_signed(link.sheets).filter(|&there| there <= self.bottom())?;
+            let layer = depth.checked_add_signed(link.layers)?;
+            Some((link.way, [there, link.node], [layer, link.edge]))
+        })
+    }
+
+    pub fn round(&mut self, bytes: &[u8], edges: &mut [u8], escapes: &mut [u8]) -> Result<(), u8> {
+        let sheet = self.sheet.clone();
+        refuse(self.stage != Stage::Rest, 22)?;
+        refuse(self.next == u32::MAX, 23)?;
+        refuse(bytes.len() != sheet.shape.detectors(), 3)?;
+        refuse(edges.len() != sheet.shape.edges(), 5)?;
+        refuse(escapes.len() != sheet.shape.detectors(), 6)?;
+        refuse(bytes.iter().any(|&byte| byte > 1), 4)?;
+
+        let gone = self.layers.pop_back().expect("a window has sheets");
+        edges.iter_mut().zip(&gone.edges).for_each(|(byte, edge)| *byte = edge.correction.into());
+        escapes.iter_mut().zip(sheet.detectors()).for_each(|(byte, node)| *byte = gone.nodes[node].defect.into());
+
+        let mut top = sheet.fresh(self.next.into());
+        bytes.iter().zip(sheet.detectors()).for_each(|(&byte, node)| top.nodes[node].defect = byte == 1);
+        self.layers.push_front(top);
+        self.next += 1;
+        let ghost = self.round_at(sheet.sheets());
+        for node in self.layers.iter_mut().flat_map(|layer| &mut layer.nodes) {
+            node.unrooted = false;
+            if let Some(root) = &mut node.mark {
+                root.round.0 = root.round.0.max(ghost);
+            }
+        }
+        self.stage = Stage::ToGrow;
+        Ok(())
+    }
+
+    pub fn grow(&mut self) -> Result<(), u8> {
+        refuse(self.stage != Stage::ToGrow, 22)?;
+        for depth in 0..self.layers.len() {
+            for (number, span) in self.sheet.spans.iter().enumerate() {
+                let Some(far) = depth.checked_sub(span.above.into()) else { continue };
+                let ends = [self.layers[depth].nodes[span.near].active, self.layers[far].nodes[span.far].active];
+                let gained = ends.into_iter().map(u8::from).sum::<u8>();
+                let edge = &mut self.layers[depth].edges[number];
+                edge.halves = (edge.halves + gained).min(2);
+            }
+        }
+        let bottom = self.bottom();
+        for node in self.layers[bottom].nodes.iter_mut().filter(|node| node.pointer == Some(Way::Down)) {
+            node.pointer = None;
+            node.mark = None;
+        }
+        self.stage = Stage::Merging;
+        Ok(())
+    }
+
+    /// One step; whether some node was busy.
+    pub fn merging(&mut self) -> Result<bool, u8> {
+        refuse(self.stage != Stage::Merging, 22)?;
+        let old = self.clone();
+        let mut busy = false;
+        for depth in 0..old.layers.len() {
+            for place in 0..old.sheet.nodes() {
+                busy |= self.sync(&old, depth, place);
+                busy |= self.flood(&old, depth, place);
+            }
+        }
+        if !busy {
+            self.stage = Stage::Rest;
+        }
+        Ok(busy)
+    }
+
+    fn sync(&mut self, old: &Window, depth: usize, place: usize) -> bool {
+        let node = &old.layers[depth].nodes[place];
+        let hot = old.sheet.detector(place) && node.defect;
+        let Some(way) = node.pointer else {
+            self.layers[depth].nodes[place].active = hot;
+            return node.active != hot;
+        };
+        let link = old.links(depth, place).find(|&(along, ..)| along == way);
+        let (_, [there, other], [layer, edge]) = link.expect("pointers go along edges");
+        if hot {
+            self.layers[layer].edges[edge].correction ^= true;
+            self.layers[depth].nodes[place].defect ^= true;
+            self.layers[there].nodes[other].defect ^= old.sheet.detector(other);
+        }
+        let active = old.layers[there].nodes[other].active;
+        self.layers[depth].nodes[place].active = active;
+        hot || active != node.active
+    }
+
+    fn flood(&mut self, old: &Window, depth: usize, place: usize) -> bool {
+        let before = &old.layers[depth].nodes[place];
+        let now = &mut self.layers[depth].nodes[place];
+        let Some(mut lowest) = before.mark else {
+            now.mark = Some(old.root(depth, place));
+            now.unrooted = true;
+            return true;
+        };
+        let mut busy = false;
+        for (way, [there, other], [layer, edge]) in old.links(depth, place) {
+            if old.layers[layer].edges[edge].halves < 2 {
+                continue;
+            }
+            match old.layers[there].nodes[other].mark {
+                Some(mark) if mark < lowest => {
+                    lowest = mark;
+                    now.mark = Some(mark);
+                    now.pointer = Some(way);
+                    busy = true;
+                }
+                None if !before.unrooted => {
+                    now.mark = None;
+                    now.pointer = None;
+                    return true;
+                }
+                _ => {}
+            }
+        }
+        busy
+    }
+
+    pub fn run(&mut self, budget: u32) -> Result<Ran, u8> {
+        refuse(self.stage == Stage::Rest, 22)?;
+        if self.stage == Stage::ToGrow {
+            self.grow()?;
+        }
+        for count in 1..=budget {
+            if !self.merging()? {
+                return Ok(Ran::Rest(count));
+            }
+        }
+        Ok(Ran::Spent(budget))
+    }
+}
+
+/// What `decode` writes: the result stream, and the line on standard error.
+#[derive(Debug, PartialEq, Eq)]
+pub struct Decoded {
+    pub result: Vec<u8>,
+    pub line: String,
+}
+
+pub const LONGEST: usize = 65_536;
+pub const BUDGET: u32 = 65_536;
+
+pub fn decode(input: &[u8]) -> Decoded {
+    let mut result = vec![];
+    let line =
+        if input.len() > LONGEST { "long\n".into() } else { rounds(input, &mut result).err().unwrap_or_default() };
+    Decoded { result, line }
+}
+
+fn rounds(input: &[u8], result: &mut Vec<u8>) -> Result<(), String> {
+    let refused = |number: u8| format!("refused {number}\n");
+    let Done((height, distance), mut at) = streams::read_header(input, 0).map_err(|stop| refused(number_of(stop)))?;
+    let mut window = Window::fresh(height, distance).map_err(refused)?;
+    result.extend([streams::number_bytes(height), streams::number_bytes(distance)].concat());
+    let shape = window.sheet.shape;
+    let (mut bytes, mut escapes, mut edges) =
+        (vec![0; shape.detectors()], vec![0; shape.detectors()], vec![0; shape.edges()]);
+    loop {
+        match streams::read_round(height, distance, input, at, &mut bytes) {
+            Ok(Done((), next)) => at = next,
+            Err(Stop::End) => return Ok(()),
+            Err(stop) => return Err(refused(number_of(stop))),
+        }
+        window.round(&bytes, &mut edges, &mut escapes).map_err(refused)?;
+        let Ran::Rest(steps) = window.run(BUDGET).map_err(refused)? else {
+            return Err("spent\n".into());
+        };
+        let record = [streams::list_bytes(&edges), streams::list_bytes(&escapes), streams::number_bytes(steps)];
+        result.extend(record.concat());
+    }
+}

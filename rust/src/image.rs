@@ -1,0 +1,165 @@
+//! A window as the proved crates hold it, well-formed or not: all its entries, in their internal order.
+
+use crate::decoder::{Edge, Layer, Node, Sheet, Stage, Way, Window};
+
+/// An entry for a node. Pointers are 0 for C and 1 to 6 in the scan order; no mark is reset.
+#[derive(Debug, Clone, Copy, PartialEq, Eq)]
+pub struct Entry {
+    pub active: bool,
+    pub defect: bool,
+    pub unrooted: bool,
+    pub pointer: u8,
+    pub mark: Option<u16>,
+}
+
+const UNUSED: Entry = Entry { active: false, defect: false, unrooted: false, pointer: 0, mark: Some(0) };
+const NODES: usize = 3_600;
+const SLOTS: usize = 10_800;
+const WAYS: [Way; 6] = [Way::North, Way::West, Way::East, Way::South, Way::Down, Way::Up];
+
+#[derive(Debug, Clone, PartialEq, Eq)]
+pub struct Image {
+    pub height: u8,
+    pub distance: u8,
+    pub stage: Stage,
+    pub next: u32,
+    pub nodes: Vec<Entry>,
+    pub growth: Vec<u8>,
+    pub correction: Vec<bool>,
+}
+
+/// The entry of a node.
+pub fn entry(sheet: &Sheet, depth: usize, node: usize) -> usize {
+    depth * sheet.nodes() + node
+}
+
+/// The entries of an edge, which stand with its west, north or lower end.
+pub fn slot(sheet: &Sheet, depth: usize, edge: usize) -> usize {
+    3 * entry(sheet, depth, sheet.spans[edge].near) + sheet.spans[edge].kind
+}
+
+impl Image {
+    /// What a refused shape gives.
+    pub fn nothing() -> Image {
+        Image {
+            height: 0,
+            distance: 0,
+            stage: Stage::Rest,
+            next: 0,
+            nodes: vec![UNUSED; NODES],
+            growth: vec![0; SLOTS],
+            correction: vec![false; SLOTS],
+        }
+    }
+
+    pub fn of(window: &Window) -> Image {
+        let sheet = &window.sheet;
+        let mut image = Image::nothing();
+        image.height = sheet.shape.height as u8;
+        image.distance = sheet.shape.distance as u8;
+        image.stage = window.stage;
+        image.next = window.next;
+        for (depth, layer) in window.layers.iter().enumerate() {
+            for (place, node) in layer.nodes.iter().enumerate() {
+                image.nodes[entry(sheet, depth, place)] = Entry {
+                    active: node.active,
+                    defect: node.defect,
+                    unrooted: node.unrooted,
+                    pointer: node.pointer.map_or(0, |way| way as u8 + 1),
+                    mark: node.mark.map(|root| window.number(root) as u16),
+                };
+            }
+            for (number, edge) in layer.edges.iter().enumerate() {
+                // The top layer's time edges lead nowhere, and their slots are never set.
+                image.growth[slot(sheet, depth, number)] = edge.halves;
+                image.correction[slot(sheet, depth, number)] = edge.correction;
+            }
+        }
+        image
+    }
+
+    /// The window, or nothing where it is not well-formed. Every entry that belongs to a window is taken out, and the
+    /// others have to be zero.
+    fn read(&self) -> Option<Window> {
+        let mut left = self.clone();
+        let mut window = Window::fresh(self.height.into(), self.distance.into()).ok()?;
+        let sheet = window.sheet.clone();
+        (window.stage, window.next) = (self.stage, self.next);
+        if (self.next as usize) < sheet.sheets() {
+            return None;
+        }
+        // Roots by their numbers, those of the ghost sheet too.
+        let mut roots = vec![window.root(0, 0); (sheet.sheets() + 1) * sheet.nodes()];
+        for depth in 0..=sheet.sheets() {
+            (0..sheet.nodes()).for_each(|node| roots[sheet.number(depth, node)] = window.root(depth, node));
+        }
+
+        let mut layers = vec![];
+        for depth in 0..sheet.sheets() {
+            let mut layer = Layer { nodes: vec![], edges: vec![] };
+            for place in 0..sheet.nodes() {
+                let entry = std::mem::replace(&mut left.nodes[entry(&sheet, depth, place)], UNUSED);
+                let mark = match entry.mark {
+                    Some(number) => Some(*roots.get(usize::from(number))?),
+                    None if self.stage == Stage::Merging => None,
+                    None => return None,
+                };
+                let pointer = match entry.pointer {
+                    0 => None,
+                    code => Some(*WAYS.get(usize::from(code) - 1)?),
+                };
+                let lost = self.stage == Stage::ToGrow && depth + 1 == sheet.sheets() && sheet.detector(place);
+                let fits = |way| window.links(depth, place).any(|(along, ..)| along == way) || lost && way == Way::Down;
+                if !pointer.is_none_or(fits) || entry.defect && !sheet.detector(place) {
+                    return None;
+                }
+                let Entry { active, defect, unrooted, .. } = entry;
+                layer.nodes.push(Node { active, defect, unrooted, pointer, mark });
+            }
+            for (number, span) in sheet.spans.iter().enumerate() {
+                if depth == 0 && span.above {
+                    layer.edges.push(Edge::default());
+                    continue;
+                }
+                let slot = slot(&sheet, depth, number);
+                let halves = std::mem::take(&mut left.growth[slot]);
+                let correction = std::mem::take(&mut left.correction[slot]);
+                if halves > 2 {
+                    return None;
+                }
+                layer.edges.push(Edge { halves, correction });
+            }
+            layers.push(layer);
+        }
+        window.layers = layers.into();
+
+        let zero = left.nodes.iter().all(|&node| node == UNUSED)
+            && left.growth.iter().all(|&halves| halves == 0)
+            && left.correction.iter().all(|&bit| !bit);
+        zero.then_some(window)
+    }
+
+    /// Makes a call on the window; what is refused leaves it as it was.
+    fn call<T>(&mut self, call: impl FnOnce(&mut Window) -> Result<T, u8>) -> Result<T, u8> {
+        let mut window = self.read().ok_or(21)?;
+        let answer = call(&mut window)?;
+        *self = Image::of(&window);
+        Ok(answer)
+    }
+
+    pub fn fresh(height: u32, distance: u32) -> Result<Image, u8> {
+        Ok(Image::of(&Window::fresh(height, distance)?))
+    }
+
+    pub fn round(&mut self, bytes: &[u8], edges: &mut [u8], escapes: &mut [u8]) -> Result<(), u8> {
+        self.call(|window| window.round(bytes, edges, escapes))
+    }
+
+    pub fn grow(&mut self) -> Result<(), u8> {
+        self.call(Window::grow)
+    }
+
+    pub fn merging(&mut self) -> Result<bool, u8> {
+        self.call(Window::merging)
+    }
+}

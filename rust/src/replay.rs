@@ -1,0 +1,120 @@
+//! The second decoder under the script of `crates/replay`, whose comment has the commands and what is written.
+
+use crate::decoder::Stage;
+use crate::image::{Entry, Image};
+
+/// A player with its window.
+pub struct Player {
+    pub image: Image,
+}
+
+fn digits(buffer: &[u8]) -> String {
+    buffer.iter().map(|&byte| char::from_digit(byte.into(), 10).unwrap_or('?')).collect()
+}
+
+fn told(answer: Result<(), u8>) -> String {
+    match answer {
+        Ok(()) => "done".into(),
+        Err(number) => format!("refused {number}"),
+    }
+}
+
+fn stage_code(stage: Stage) -> u64 {
+    match stage {
+        Stage::Rest => 0,
+        Stage::ToGrow => 1,
+        Stage::Merging => 2,
+    }
+}
+
+/// A polynomial modulo a prime below 2^55, over every entry of the window.
+pub fn digest(image: &Image) -> u64 {
+    const PRIME: u64 = (1 << 55) - 55;
+    let head = [image.height.into(), image.distance.into(), stage_code(image.stage), image.next.into()];
+    let nodes = image.nodes.iter().flat_map(|node| {
+        let mark = node.mark.map_or(65_536, u64::from);
+        [node.active.into(), node.defect.into(), node.unrooted.into(), node.pointer.into(), mark]
+    });
+    let growth = image.growth.iter().map(|&halves| u64::from(halves));
+    let correction = image.correction.iter().map(|&bit| u64::from(bit));
+    head.into_iter().chain(nodes).chain(growth).chain(correction).fold(0, |sum, x| (sum * 259 + x + 1) % PRIME)
+}
+
+impl Default for Player {
+    fn default() -> Player {
+        Player { image: Image::fresh(1, 2).expect("1 by 2 is a shape") }
+    }
+}
+
+impl Player {
+    fn line(&self, text: String) -> String {
+        format!("{text} {:014x}\n", digest(&self.image))
+    }
+
+    /// What a line of the script has written.
+    pub fn play(&mut self, line: &str) -> String {
+        let words: Vec<&str> = line.split(' ').collect();
+        let number = |place: usize| words[place].parse::<u32>().expect("a number of 32 bits");
+        match words[0] {
+            "open" => {
+                let opened = Image::fresh(number(1), number(2));
+                let answer = opened.as_ref().map(|_| ()).map_err(|&number| number);
+                self.image = opened.unwrap_or_else(|_| Image::nothing());
+                self.line(format!("open {}", told(answer)))
+            }
+            "round" => {
+                let (mut edges, mut escapes) = (vec![7; number(1) as usize], vec![7; number(2) as usize]);
+                let bytes: Vec<u8> = words.get(3).unwrap_or(&"").bytes().map(|digit| digit - b'0').collect();
+                let answer = self.image.round(&bytes, &mut edges, &mut escapes);
+                self.line(format!("round {} {} {}", told(answer), digits(&edges), digits(&escapes)))
+            }
+            "grow" => {
+                let answer = self.image.grow();
+                self.line(format!("grow {}", told(answer)))
+            }
+            "merging" => {
+                let mut written = String::new();
+                for _ in 0..number(1) {
+                    let answer = self.image.merging();
+                    written += &self.line(match answer {
+                        Ok(true) => "merging busy".into(),
+                        Ok(false) => "merging rest".into(),
+                        Err(number) => format!("merging refused {number}"),
+                    });
+                    if answer != Ok(true) {
+                        break;
+                    }
+                }
+                written
+            }
+            "#" => format!("{line}\n"),
+            edit => {
+                let i = number(1) as usize;
+                match edit {
+                    "dims" => (self.image.height, self.image.distance) = (number(1) as u8, number(2) as u8),
+                    "stage" => self.image.stage = [Stage::Rest, Stage::ToGrow, Stage::Merging][i],
+                    "next" => self.image.next = number(1),
+                    "entry" => {
+                        self.image.nodes[i] = Entry {
+                            active: number(2) == 1,
+                            defect: number(3) == 1,
+                            unrooted: number(4) == 1,
+                            pointer: number(5) as u8,
+                            mark: u16::try_from(number(6)).ok(),
+                        }
+                    }
+                    "halves" => self.image.growth[i] = number(2) as u8,
+                    "flip" => self.image.correction[i] = number(2) == 1,
+                    _ => panic!("no command: {line}"),
+                }
+                self.line("edit".into())
+            }
+        }
+    }
+}
+
+/// What a whole script has written.
+pub fn replay(script: &str) -> String {
+    let mut player = Player::default();
+    script.lines().map(|line| player.play(line)).collect()
+}

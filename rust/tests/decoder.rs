@@ -1,0 +1,159 @@
+//! The second decoder on what document 01 prints.
+
+use baizeridge_tests::decoder::{decode, Decoded, Ran, Sheet, Stage, Window};
+use baizeridge_tests::random::Random;
+use baizeridge_tests::streams::Shape;
+
+fn decoded(result: &[u8]) -> Decoded {
+    Decoded { result: result.to_vec(), line: String::new() }
+}
+
+fn refused(result: &[u8], number: u8) -> Decoded {
+    Decoded { result: result.to_vec(), line: format!("refused {number}\n") }
+}
+
+/// A window and buffers that fit it.
+fn opened(height: u32, distance: u32) -> (Window, Vec<u8>, Vec<u8>) {
+    let window = Window::fresh(height, distance).expect("a shape in range");
+    let shape = window.sheet.shape;
+    (window, vec![7; shape.edges()], vec![7; shape.detectors()])
+}
+
+#[test]
+fn first_session() {
+    let result = [[1, 3].as_slice(), &[0, 0, 2], &[0, 0, 1], &[0, 0, 4], &[1, 0, 0, 2]].concat();
+    assert_eq!(decode(&[1, 3, 1, 0, 0, 0, 0]), decoded(&result));
+}
+
+#[test]
+fn second_session() {
+    let result = [[1, 3].as_slice(), &[0, 0, 2], &[0, 0, 5], &[0, 0, 1], &[1, 1, 0, 1]].concat();
+    assert_eq!(decode(&[1, 3, 2, 0, 0, 0, 0, 0]), decoded(&result));
+}
+
+#[test]
+fn a_tie_goes_west() {
+    let (mut window, mut edges, mut escapes) = opened(1, 2);
+    let mut committed = vec![];
+    for bytes in [[1], [0], [0], [0], [0], [0]] {
+        window.round(&bytes, &mut edges, &mut escapes).expect("a round");
+        window.run(100).expect("a run");
+        assert_eq!(escapes, [0]);
+        committed.push(edges.clone());
+    }
+    assert_eq!(committed.iter().filter(|edges| **edges == [1, 0, 0]).count(), 1);
+    assert_eq!(committed.iter().filter(|edges| **edges == [0, 0, 0]).count(), 5);
+}
+
+#[test]
+fn budgets() {
+    let (mut window, mut edges, mut escapes) = opened(1, 3);
+    for bytes in [[1, 0], [0, 0]] {
+        window.round(&bytes, &mut edges, &mut escapes).expect("a round");
+        window.run(100).expect("a run");
+    }
+    window.round(&[0, 0], &mut edges, &mut escapes).expect("the third round");
+    assert_eq!(window.clone().run(4), Ok(Ran::Rest(4)));
+    assert_eq!(window.clone().run(0), Ok(Ran::Spent(0)));
+    assert_eq!(window.run(3), Ok(Ran::Spent(3)));
+    assert_eq!(window.stage, Stage::Merging);
+    assert_eq!(window.run(1), Ok(Ran::Rest(1)));
+    assert_eq!(window.run(1), Err(22));
+}
+
+#[test]
+fn lengths_and_bytes() {
+    let (window, mut edges, mut escapes) = opened(1, 3);
+    for (bytes, answer) in
+        [([0, 1].as_slice(), Ok(())), (&[1], Err(3)), (&[0, 1, 0], Err(3)), (&[0, 2], Err(4)), (&[2], Err(3))]
+    {
+        assert_eq!(window.clone().round(bytes, &mut edges, &mut escapes), answer);
+    }
+    for (edges, escapes, answer) in [(4, 2, 5), (6, 2, 5), (5, 1, 6), (5, 3, 6), (4, 1, 5)] {
+        assert_eq!(window.clone().round(&[0, 2], &mut vec![7; edges], &mut vec![7; escapes]), Err(answer));
+    }
+}
+
+#[test]
+fn stages_and_the_last_round() {
+    let (mut window, mut edges, mut escapes) = opened(1, 3);
+    assert_eq!(window.grow(), Err(22));
+    assert_eq!(window.merging(), Err(22));
+    window.next = 4_294_967_295;
+    assert_eq!(window.clone().round(&[2], &mut edges, &mut escapes), Err(23));
+    window.next = 4_294_967_294;
+    assert_eq!(window.round(&[0, 1], &mut edges, &mut escapes), Ok(()));
+    assert_eq!(window.round(&[0, 1], &mut edges, &mut escapes), Err(22));
+    window.run(100).expect("a run");
+    assert_eq!(window.round(&[0, 1], &mut edges, &mut escapes), Err(23));
+}
+
+#[test]
+fn shapes() {
+    for (height, distance, number) in [(0, 3, 1), (16, 3, 1), (1, 1, 2), (1, 16, 2), (0, 0, 1)] {
+        assert_eq!(Window::fresh(height, distance).err(), Some(number));
+    }
+    for (height, distance, nodes) in [(1, 2, 9), (3, 3, 36), (15, 15, 3_600)] {
+        let sheet = Sheet::new(Shape::new(height, distance).expect("a shape in range"));
+        assert_eq!(sheet.nodes() * sheet.sheets(), nodes);
+    }
+}
+
+#[test]
+fn streams_that_end_early() {
+    assert_eq!(decode(&[]), refused(&[], 7));
+    assert_eq!(decode(&[0]), refused(&[], 1));
+    assert_eq!(decode(&[1]), refused(&[], 7));
+    assert_eq!(decode(&[1, 16]), refused(&[], 2));
+    assert_eq!(decode(&[1, 3]), decoded(&[1, 3]));
+    assert_eq!(decode(&[1, 3, 1, 0, 3]), refused(&[1, 3, 0, 0, 2], 9));
+    assert_eq!(decode(&[1, 3, 1, 0, 1]), refused(&[1, 3, 0, 0, 2], 7));
+    assert_eq!(decode(&[1, 3, 0x80, 0]), refused(&[1, 3], 8));
+    assert_eq!(decode(&vec![1; 65_537]), Decoded { result: vec![], line: "long\n".into() });
+}
+
+/// Random rounds, on every shape: what is committed and pending, with what escaped, explains every defect received.
+#[test]
+fn every_defect_is_accounted_for() {
+    for (case, (h, d, _)) in baizeridge_tests::cases::shapes().into_iter().enumerate() {
+        let mut random = Random::new(0xde0d, case as u64);
+        let (mut window, mut edges, mut escapes) = opened(h, d);
+        let sheet = window.sheet.clone();
+        let percent = random.pick(&[1, 3, 10, 30]);
+        // Parity of each detector, of the rounds that left the window and of those in it, by round from 0.
+        let mut parity = vec![vec![false; sheet.nodes()]; sheet.sheets()];
+        let flip = |parity: &mut Vec<Vec<bool>>, round: usize, edge: usize| {
+            let span = sheet.spans[edge];
+            parity[round][span.near] ^= true;
+            parity[round + usize::from(span.above)][span.far] ^= true;
+        };
+        let detectors: Vec<usize> = (0..sheet.nodes()).filter(|&node| sheet.detector(node)).collect();
+        for count in 0..6 {
+            let bytes: Vec<u8> = detectors.iter().map(|_| u8::from(random.below(100) < percent)).collect();
+            window.round(&bytes, &mut edges, &mut escapes).expect("a round");
+            parity.push(vec![false; sheet.nodes()]);
+            let top = parity.len() - 1;
+            for (&byte, &node) in bytes.iter().zip(&detectors) {
+                parity[top][node] ^= byte == 1;
+            }
+            for (&byte, &node) in escapes.iter().zip(&detectors) {
+                parity[count][node] ^= byte == 1;
+            }
+            for edge in (0..edges.len()).filter(|&edge| edges[edge] == 1) {
+                flip(&mut parity, count, edge);
+            }
+            assert!(matches!(window.run(65_536), Ok(Ran::Rest(_))));
+            let mut now = parity.clone();
+            for (depth, layer) in window.layers.iter().enumerate() {
+                let round = top - depth;
+                for edge in (0..layer.edges.len()).filter(|&edge| layer.edges[edge].correction) {
+                    flip(&mut now, round, edge);
+                }
+                for &node in &detectors {
+                    now[round][node] ^= layer.nodes[node].defect;
+                }
+            }
+            assert!(now.iter().all(|sheet| detectors.iter().all(|&node| !sheet[node])), "{h} by {d}");
+        }
+    }
+}
