@@ -85,6 +85,21 @@ extern "C" {
         at: usize,
         place: *mut usize,
     ) -> u8;
+    fn baizeridge_nodes(height: u32, distance: u32) -> usize;
+    fn baizeridge_detectors(height: u32, distance: u32) -> usize;
+    fn baizeridge_layer_edges(height: u32, distance: u32) -> usize;
+}
+
+/// A shape's sizes: the nodes of its window, the detectors of a sheet, the edges of a layer.
+pub fn sizes(height: u32, distance: u32) -> [usize; 3] {
+    // SAFETY: numbers in, numbers out.
+    unsafe {
+        [
+            baizeridge_nodes(height, distance),
+            baizeridge_detectors(height, distance),
+            baizeridge_layer_edges(height, distance),
+        ]
+    }
 }
 
 const PLACE: usize = 0x5a5a_5a5a_5a5a_5a5a;

@@ -184,7 +184,7 @@ leftBy w edges escapes a = received (passed a) (valueOr a windowOf w) (valueOr a
 
 module _ (w : Window) (bytes edges escapes : List ℕ) where
   abbrev after : Round
-  after = record { window = rounded base w bytes; edges = committed base w; escapes = escaped base w }
+  after = record { window = rounded base w bytes; edges = committed base w; escapes = escaped w }
 
   pub round-refused : (r : Called) → told r ≡ unless (roundTests base w bytes (length edges) (length escapes)) fine → (f : Refusal) → r ≡ called.Refused f
       → received (turned f) w edges escapes ≡ roundLeaves base w bytes edges escapes
@@ -200,7 +200,7 @@ module _ (w : Window) (bytes edges escapes : List ℕ) where
       ))
 
   pub round-done : (r : Called) → told r ≡ unless (roundTests base w bytes (length edges) (length escapes)) fine → r ≡ called.Done
-      → received fine (rounded base w bytes) (committed base w) (escaped base w) ≡ roundLeaves base w bytes edges escapes
+      → received fine (rounded base w bytes) (committed base w) (escaped w) ≡ roundLeaves base w bytes edges escapes
   unfolding roundCall
   round-done r told-as z =
       let e = ap told (sym z) ∙ told-as in

@@ -101,7 +101,7 @@ module _ (T : Table) (S : Suited T) where
     round-done : (bytes edges escapes : List ℕ) (v : Round) (n : ℕ) → roundCall T w bytes edges escapes ≡ done v n → Kept T (v .window)
     unfolding roundCall
     round-done bytes edges escapes v n e =
-        let x = passed T w (isRest (w .stage)) (drop 2 (roundTests T w bytes (length edges) (length escapes))) (record { window = rounded T w bytes; edges = committed T w; escapes = escaped T w }) v n e in
+        let x = passed T w (isRest (w .stage)) (drop 2 (roundTests T w bytes (length edges) (length escapes))) (record { window = rounded T w bytes; edges = committed T w; escapes = escaped w }) v n e in
         subst (λ (r : Round). Kept T (r .window)) (x .value) (kept-round T S w (record { formed = x .formed; sized = s }) bytes (x .staged))
 
     grow-done : (v : Window) (n : ℕ) → growCall T w ≡ done v n → Kept T v

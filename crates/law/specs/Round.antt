@@ -103,7 +103,7 @@ module _ (T : Table) (S : Suited T) (w : Window) (bytes : List ℕ) (f : Facts T
           used = choice _ _ (s .used) (λ e. either _ _ (falls-on kind k e)) (λ e. other (to w T (namer T kind) g .there) _ e);
         }
 
-  node-fits : (g : ℕ) → g < size w → Fits T ToGrow h d (place w g) (fallenNode T w bytes g)
+  node-fits : (g : ℕ) → g < size w → Fits T ToGrow h d (place w g) (fallenNode w bytes g)
   unfolding fallenNode received
   node-fits g l =
       ⊎-elim (λ (e : ltb g (sheet w) ≡ true). rw (e, fallenNode) (alone-fits T ToGrow h d (f .ranged) g l _ (received-fits (boundary d (place w g .column)) _)))
@@ -113,21 +113,21 @@ module _ (T : Table) (S : Suited T) (w : Window) (bytes : List ℕ) (f : Facts T
   -- SLOTS
 
   fallen-at : {A : Type 0} (z : A) (old : List A) (g kind : ℕ) → g < size w → kind < T .kinds
-      → getD (over (T .kinds * size w) (fallenSlot T w bytes z old) old) (T .kinds * g + kind) z
-      ≡ if (atTop T w bytes g (namer T kind)) z (getD old (T .kinds * g + kind - T .kinds * sheet w) z)
+      → getD (over (T .kinds * size w) (fallenSlot T w z old) old) (T .kinds * g + kind) z
+      ≡ if (atTop T w g (namer T kind)) z (getD old (T .kinds * g + kind - T .kinds * sheet w) z)
   unfolding fallenSlot
   fallen-at z old g kind l m =
       let e = T .kinds * g + kind in
-      over-at (fallenSlot T w bytes z old) old (T .kinds * size w) e z (slot-within (T .kinds) g kind m (size w) l)
-      ∙ slot-of (T .kinds) g kind m (λ i k. if (atTop T w bytes i (namer T k)) z (getD old (e - T .kinds * sheet w) z))
+      over-at (fallenSlot T w z old) old (T .kinds * size w) e z (slot-within (T .kinds) g kind m (size w) l)
+      ∙ slot-of (T .kinds) g kind m (λ i k. if (atTop T w i (namer T k)) z (getD old (e - T .kinds * sheet w) z))
 
-  below : (g kind : ℕ) → g < size w → atTop T w bytes g (namer T kind) ≡ false → sheet w ≤ g
+  below : (g kind : ℕ) → g < size w → atTop T w g (namer T kind) ≡ false → sheet w ≤ g
   below g kind l e =
       ⊎-elim (λ m. absurd (undone (sym (either _ _ (eq-eqb _ _ (top h d g (f .ranged .h1) m))) ∙ e))) (λ m. m) (order g (sheet w))
 
   slot-fits : (g kind : ℕ) → g < size w → kind < T .kinds
-      → SlotOf T w g kind (over (T .kinds * size w) (fallenSlot T w bytes 0 (w .growth)) (w .growth))
-      (over (T .kinds * size w) (fallenSlot T w bytes false (w .correction)) (w .correction))
+      → SlotOf T w g kind (over (T .kinds * size w) (fallenSlot T w 0 (w .growth)) (w .growth))
+      (over (T .kinds * size w) (fallenSlot T w false (w .correction)) (w .correction))
   slot-fits g kind l m =
       let a = fallen-at {A = ℕ} 0 (w .growth) g kind l m in
       let b = fallen-at false (w .correction) g kind l m in
@@ -138,7 +138,7 @@ module _ (T : Table) (S : Suited T) (w : Window) (bytes : List ℕ) (f : Facts T
       = let y : g ≡ g - sheet w + sheet w = omega arith in
       omega (arith, ap (λ (i : ℕ). T .kinds * i) y, mul-add (T .kinds) (g - sheet w) (sheet w)) in
       rw (a ∙ if-false _ _ _ e, b ∙ if-false _ _ _ e, x) (slot-falls g l n kind _ _ m (f .slots (g - sheet w) kind (above-lt g l n) m)))
-      (tell (atTop T w bytes g (namer T kind)))
+      (tell (atTop T w g (namer T kind)))
 
   rounded-facts : Facts T (rounded T w bytes)
   unfolding rounded
@@ -146,11 +146,11 @@ module _ (T : Table) (S : Suited T) (w : Window) (bytes : List ℕ) (f : Facts T
       record {
         ranged = f .ranged;
         next = omega (arith, f .next);
-        nodes = λ g l. rw (over-at (fallenNode T w bytes) (w .nodes) (size w) g beyond l) (node-fits g l);
+        nodes = λ g l. rw (over-at (fallenNode w bytes) (w .nodes) (size w) g beyond l) (node-fits g l);
         slots = slot-fits;
-        unusedNodes = all-over unusedNode (fallenNode T w bytes) (size w) (w .nodes) (f .unusedNodes);
-        unusedGrowth = all-over isEmpty (fallenSlot T w bytes 0 (w .growth)) (T .kinds * size w) (w .growth) (f .unusedGrowth);
-        unusedCorrection = all-over not (fallenSlot T w bytes false (w .correction)) (T .kinds * size w) (w .correction) (f .unusedCorrection);
+        unusedNodes = all-over unusedNode (fallenNode w bytes) (size w) (w .nodes) (f .unusedNodes);
+        unusedGrowth = all-over isEmpty (fallenSlot T w 0 (w .growth)) (T .kinds * size w) (w .growth) (f .unusedGrowth);
+        unusedCorrection = all-over not (fallenSlot T w false (w .correction)) (T .kinds * size w) (w .correction) (f .unusedCorrection);
       }
 
 module _ (T : Table) (w : Window) (bytes : List ℕ) where
@@ -161,7 +161,7 @@ module _ (T : Table) (w : Window) (bytes : List ℕ) where
   unfolding rounded
   round-sized l s =
       record {
-        nodes = nodes-over w s (fallenNode T w bytes);
-        growth = growth-over w s (T .kinds) l (fallenSlot T w bytes 0 (w .growth));
-        correction = correction-over w s (T .kinds) l (fallenSlot T w bytes false (w .correction));
+        nodes = nodes-over w s (fallenNode w bytes);
+        growth = growth-over w s (T .kinds) l (fallenSlot T w 0 (w .growth));
+        correction = correction-over w s (T .kinds) l (fallenSlot T w false (w .correction));
       }

@@ -104,7 +104,7 @@ under (suc (suc k)) =
 
 module _ (w : Window) (bytes : List ℕ) (g : ℕ) (q : Place) (e : q ≡ place w g) (high : 1 ≤ w .shape .height) where
   pub fallen-node : (n above : ℕ) (v : Node) → n ≡ sheet w → above ≡ g - n
-      → v ≡ if (ltb g n) (received (w .shape .height) (w .shape .distance) bytes q) (sunk (w .shape .height) (w .shape .distance) (at w above)) → v ≡ fallenNode base w bytes g
+      → v ≡ if (ltb g n) (received (w .shape .height) (w .shape .distance) bytes q) (sunk (w .shape .height) (w .shape .distance) (at w above)) → v ≡ fallenNode w bytes g
   unfolding fallenNode
   fallen-node n above v a b f = f ∙ rw (b, a, e)
 
@@ -123,27 +123,27 @@ module _ (w : Window) (bytes : List ℕ) (g : ℕ) (q : Place) (e : q ≡ place 
       one-sheet l = rw (one-mul h) l
 
   -- an edge of the top sheet's own, and a time edge to it
-  pub top-row : eqb (q .depth) 0 ≡ atTop base w bytes g (namer base 0)
+  pub top-row : eqb (q .depth) 0 ≡ atTop base w g (namer base 0)
   unfolding base naming across
   top-row = rw e (own (place w g .depth))
 
-  pub top-column : eqb (q .depth) 0 ≡ atTop base w bytes g (namer base 1)
+  pub top-column : eqb (q .depth) 0 ≡ atTop base w g (namer base 1)
   unfolding base naming across
   top-column = rw e (own (place w g .depth))
 
-  pub top-time : leb (q .depth) 1 ≡ atTop base w bytes g (namer base 2)
+  pub top-time : leb (q .depth) 1 ≡ atTop base w g (namer base 2)
   unfolding base naming across
   top-time = rw e (under (place w g .depth))
 
   module _ {ℓ} {A : Type ℓ} (none : A) (old : List A) where
-    slot-at : (x k s : ℕ) → s / 3 ≡ x → s % 3 ≡ k → fallenSlot base w bytes none old s ≡ if (atTop base w bytes x (namer base k)) none (getD old (s - 3 * sheet w) none)
+    slot-at : (x k s : ℕ) → s / 3 ≡ x → s % 3 ≡ k → fallenSlot base w none old s ≡ if (atTop base w x (namer base k)) none (getD old (s - 3 * sheet w) none)
     unfolding fallenSlot base
     slot-at x k s a b =
-        ap (λ (n : ℕ). if (atTop base w bytes n (namer base (s % 3))) none (getD old (s - 3 * sheet w) none)) a
-        ∙ ap (λ (n : ℕ). if (atTop base w bytes x (namer base n)) none (getD old (s - 3 * sheet w) none)) b
+        ap (λ (n : ℕ). if (atTop base w n (namer base (s % 3))) none (getD old (s - 3 * sheet w) none)) a
+        ∙ ap (λ (n : ℕ). if (atTop base w x (namer base n)) none (getD old (s - 3 * sheet w) none)) b
 
-    pub fallen-slot : (kind above : ℕ) (top : Bool) (v : A) → kind < 3 → above ≡ g - sheet w → top ≡ atTop base w bytes g (namer base kind)
-        → v ≡ if top none (getD old (3 * above + kind) none) → v ≡ fallenSlot base w bytes none old (3 * g + kind)
+    pub fallen-slot : (kind above : ℕ) (top : Bool) (v : A) → kind < 3 → above ≡ g - sheet w → top ≡ atTop base w g (namer base kind)
+        → v ≡ if top none (getD old (3 * above + kind) none) → v ≡ fallenSlot base w none old (3 * g + kind)
     fallen-slot kind above top v l a t f =
         let x : (3 * g + kind) / 3 ≡ g = omega arith in
         let y : (3 * g + kind) % 3 ≡ kind = omega arith in

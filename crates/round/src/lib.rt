@@ -88,7 +88,7 @@ fn detector_index(shape: Shape, i: usize) -> usize
 pub fn escape(w: Window, escapes: &mut [u8])
     requires { ⌜ inRange (w .shape .height) (w .shape .distance) ≡ true ⌝ }
     requires { ⌜ length (now escapes) ≡ detectorsOf (w .shape .height) (w .shape .distance) ⌝ }
-    ensures { λ _. ⌜ now (escapes .exit) ≡ escaped base w ⌝ }
+    ensures { λ _. ⌜ now (escapes .exit) ≡ escaped w ⌝ }
 {
     let shape = w.shape;
     let mut i: usize = 0;

@@ -43,3 +43,10 @@ module _ (h d : ℕ) (r : Shaped) (e : told r ≡ shapeOf h d) where
 
   pub shape-named : (sh : Shape) → r ≡ shaped.Shape sh → sh ≡ shapeBy h d
   shape-named sh k = sym (tests-done (shapeTests h d) (shapeBy h d) sh 0 0 (sym e ∙ ap told k))
+
+  -- a size, where the shape is one and where it is refused
+  pub sized : (of : Shape → ℕ) (n : ℕ) (sh : Shape) → r ≡ shaped.Shape sh → n ≡ of sh → n ≡ valueOr (shapeOf h d) of 0
+  sized of n sh k z = z ∙ value-done (shapeOf h d) of 0 sh 0 (sym e ∙ ap told k)
+
+  pub unsized : (of : Shape → ℕ) (f : Refusal) → r ≡ shaped.Refused f → 0 ≡ valueOr (shapeOf h d) of 0
+  unsized of f k = value-turned (shapeOf h d) of 0 f (sym e ∙ ap told k)

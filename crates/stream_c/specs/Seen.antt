@@ -1,6 +1,7 @@
 -- What a caller in C sees of an answer: one number for how the call ended, a place, and values where it is done. Assumes nothing.
 use Prim.Native.Nat.{ℕ}
 use Rattle.refusal.specs.Answer.{Answer, status, placeOr}
+use Rattle.shape.specs.Sizes.{nodesOf, detectorsOf, layerEdgesOf}
 use Rattle.shape.specs.declared.Shape.{Shape}
 
 -- the status, and the place that the caller lent
@@ -24,3 +25,13 @@ heightOf sh = sh .height
 
 abbrev pub distanceOf : Shape → ℕ
 distanceOf sh = sh .distance
+
+-- the sizes of a shape
+abbrev pub nodesBy : Shape → ℕ
+nodesBy sh = nodesOf (sh .height) (sh .distance)
+
+abbrev pub detectorsBy : Shape → ℕ
+detectorsBy sh = detectorsOf (sh .height) (sh .distance)
+
+abbrev pub edgesBy : Shape → ℕ
+edgesBy sh = layerEdgesOf (sh .height) (sh .distance)

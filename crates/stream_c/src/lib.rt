@@ -4,9 +4,10 @@ ghost use mathlib.Core.Path.{_≡_};
 ghost use Rattle.refusal.specs.Answer.{turned, valueOr, itself};
 ghost use Rattle.number.specs.Number.{numberAt, toldTo, writeNumber};
 ghost use Rattle.list.specs.Sheet.{readList, writeList};
+ghost use Rattle.shape.specs.Sizes.{shapeOf};
 ghost use Rattle.stream.specs.Records.{headerAt};
 ghost use Rattle.stream.specs.Calls.{writeHeader, readRound, writeRound, readResult, writeResult, asResult};
-ghost use Rattle.stream_c.specs.Seen.{seen, shown, shapeBy, heightOf, distanceOf};
+ghost use Rattle.stream_c.specs.Seen.{seen, shown, shapeBy, heightOf, distanceOf, nodesBy, detectorsBy, edgesBy};
 use list::Listed;
 use number::Read;
 use number::Wrote;
@@ -244,5 +245,38 @@ pub extern "C" fn baizeridge_write_result(
             let w = stream::write_result(shape, edges, escapes, steps, out, at);
             wrote(w, place)
         }
+    }
+}
+
+// The sizes of a shape, 0 where it is refused: the nodes of its window,
+#[no_mangle]
+pub extern "C" fn baizeridge_nodes(height: u32, distance: u32) -> usize
+    ensures { λ r. ⌜ r ≡ valueOr (shapeOf height distance) nodesBy 0 ⌝ }
+{
+    match shape::shape_of(height, distance) {
+        Shaped::Shape(shape) => shape::nodes(shape),
+        Shaped::Refused(_) => 0,
+    }
+}
+
+// the detectors of a sheet,
+#[no_mangle]
+pub extern "C" fn baizeridge_detectors(height: u32, distance: u32) -> usize
+    ensures { λ r. ⌜ r ≡ valueOr (shapeOf height distance) detectorsBy 0 ⌝ }
+{
+    match shape::shape_of(height, distance) {
+        Shaped::Shape(shape) => shape::detectors(shape),
+        Shaped::Refused(_) => 0,
+    }
+}
+
+// and the edges of a layer.
+#[no_mangle]
+pub extern "C" fn baizeridge_layer_edges(height: u32, distance: u32) -> usize
+    ensures { λ r. ⌜ r ≡ valueOr (shapeOf height distance) edgesBy 0 ⌝ }
+{
+    match shape::shape_of(height, distance) {
+        Shaped::Shape(shape) => shape::layer_edges(shape),
+        Shaped::Refused(_) => 0,
     }
 }

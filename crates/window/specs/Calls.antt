@@ -76,7 +76,7 @@ module _ (T : Table) (w : Window) where
   unfoldable pub roundCall : List ℕ → List ℕ → List ℕ → Answer Round
   roundCall bytes edges escapes =
       unless (roundTests bytes (length edges) (length escapes))
-      (done (record { window = rounded T w bytes; edges = committed T w; escapes = escaped T w }) 0)
+      (done (record { window = rounded T w bytes; edges = committed T w; escapes = escaped w }) 0)
 
   unfoldable pub growCall : Answer Window
   growCall = unless (stateTests (isToGrow (w .stage))) (done (grown T w) 0)

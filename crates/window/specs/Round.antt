@@ -29,20 +29,19 @@ edgeSlot T h d depth e = T .kinds * indexOf h d (record { depth = depth; row = e
 abbrev pub detectorAt : ℕ → ℕ → ℕ → Place
 detectorAt d depth i = record { depth = depth; row = i / (d - 1); column = i % (d - 1) + 1 }
 
-module _ (T : Table) (w : Window) where
-  -- the bottom layer's correction bits go to the edge buffer, one byte an edge
-  unfoldable pub committed : List ℕ
-  committed =
-      let h = w .shape .height in
-      let d = w .shape .distance in
-      byPlace (layerEdgesOf h d) (λ i. bit (getD (w .correction) (edgeSlot T h d (sheetsOf d - 1) (edgeOf h d i)) false))
+-- the bottom layer's correction bits go to the edge buffer, one byte an edge
+unfoldable pub committed : Table → Window → List ℕ
+committed T w =
+    let h = w .shape .height in
+    let d = w .shape .distance in
+    byPlace (layerEdgesOf h d) (λ i. bit (getD (w .correction) (edgeSlot T h d (sheetsOf d - 1) (edgeOf h d i)) false))
 
-  -- the bottom sheet's defects go to the escape buffer, one byte a detector
-  unfoldable pub escaped : List ℕ
-  escaped =
-      let h = w .shape .height in
-      let d = w .shape .distance in
-      byPlace (detectorsOf h d) (λ i. bit (at w (indexOf h d (detectorAt d (sheetsOf d - 1) i)) .defect))
+-- the bottom sheet's defects go to the escape buffer, one byte a detector
+unfoldable pub escaped : Window → List ℕ
+escaped w =
+    let h = w .shape .height in
+    let d = w .shape .distance in
+    byPlace (detectorsOf h d) (λ i. bit (at w (indexOf h d (detectorAt d (sheetsOf d - 1) i)) .defect))
 
 -- WHAT MOVES DOWN
 
@@ -67,27 +66,27 @@ unfoldable pub received : ℕ → ℕ → List ℕ → Place → Node
 received h d bytes q =
     alone (numberOf h d q) (not (boundary d (q .column)) && eqb (getD bytes (q .row * (d - 1) + (q .column - 1)) 0) 1)
 
-module _ (T : Table) (w : Window) (bytes : List ℕ) where
-  unfoldable pub fallenNode : ℕ → Node
-  fallenNode g =
-      if (ltb g (sheet w)) (received (w .shape .height) (w .shape .distance) bytes (place w g))
-      (sunk (w .shape .height) (w .shape .distance) (at w (g - sheet w)))
+unfoldable pub fallenNode : Window → List ℕ → ℕ → Node
+fallenNode w bytes g =
+    if (ltb g (sheet w)) (received (w .shape .height) (w .shape .distance) bytes (place w g))
+    (sunk (w .shape .height) (w .shape .distance) (at w (g - sheet w)))
 
-  -- an edge of the new top sheet: one of its own, or a down edge
-  abbrev pub atTop : ℕ → ℕ → Bool
-  atTop g p = eqb (place w g .depth) 0 || eqb (across (step T p) (place w g) .depth) 0
+-- an edge of the new top sheet: one of its own, or a down edge
+abbrev pub atTop : Table → Window → ℕ → ℕ → Bool
+atTop T w g p = eqb (place w g .depth) 0 || eqb (across (step T p) (place w g) .depth) 0
 
-  -- what stands in a slot: nothing where the edge is new, else what stood one sheet above
-  unfoldable pub fallenSlot {ℓ} : {A : Type ℓ} → A → List A → ℕ → A
-  fallenSlot zero old e = if (atTop (e / T .kinds) (namer T (e % T .kinds))) zero (getD old (e - T .kinds * sheet w) zero)
+-- what stands in a slot: nothing where the edge is new, else what stood one sheet above
+unfoldable pub fallenSlot {ℓ} : {A : Type ℓ} → Table → Window → A → List A → ℕ → A
+fallenSlot T w zero old e =
+    if (atTop T w (e / T .kinds) (namer T (e % T .kinds))) zero (getD old (e - T .kinds * sheet w) zero)
 
-  unfoldable pub rounded : Window
-  rounded =
-      record {
-        shape = w .shape;
-        stage = ToGrow;
-        next = w .next + 1;
-        nodes = over (size w) fallenNode (w .nodes);
-        growth = over (T .kinds * size w) (fallenSlot 0 (w .growth)) (w .growth);
-        correction = over (T .kinds * size w) (fallenSlot false (w .correction)) (w .correction);
-      }
+unfoldable pub rounded : Table → Window → List ℕ → Window
+rounded T w bytes =
+    record {
+      shape = w .shape;
+      stage = ToGrow;
+      next = w .next + 1;
+      nodes = over (size w) (fallenNode w bytes) (w .nodes);
+      growth = over (T .kinds * size w) (fallenSlot T w 0 (w .growth)) (w .growth);
+      correction = over (T .kinds * size w) (fallenSlot T w false (w .correction)) (w .correction);
+    }

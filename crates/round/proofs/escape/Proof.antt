@@ -29,7 +29,7 @@ turn : (w : Window) (i g v : ℕ) → g ≡ indexOf (w .shape .height) (w .shape
     → v ≡ bit (at w g .defect) → v ≡ rule w i
 turn w i g v p q = q ∙ rw p
 
-ends : (w : Window) (old escapes : List ℕ) (i : ℕ) → (i ≤ length old) × (escapes ≡ over i (rule w) old) → length old ≤ i → length old ≡ detectorsOf (w .shape .height) (w .shape .distance) → escapes ≡ escaped base w
+ends : (w : Window) (old escapes : List ℕ) (i : ℕ) → (i ≤ length old) × (escapes ≡ over i (rule w) old) → length old ≤ i → length old ≡ detectorsOf (w .shape .height) (w .shape .distance) → escapes ≡ escaped w
 unfolding escaped
 ends w old escapes i v l e =
     let k : i ≡ detectorsOf (w .shape .height) (w .shape .distance) = omega (arith, v .0) in

@@ -30,9 +30,9 @@ use Rattle.round.proofs.sink.Tie as tie
 abbrev Sinking : Window → List ℕ → ℕ → List Node → List ℕ → List Bool → Place → ℕ → Type 0
 Sinking w bytes n nodes growth correction q g =
     (g ≤ n) × (n ≤ 3600) × (1 ≤ w .shape .height → q ≡ place w g)
-    × (nodes ≡ over g (fallenNode base w bytes) (w .nodes))
-    × (growth ≡ over (3 * g) (fallenSlot base w bytes 0 (w .growth)) (w .growth))
-    × (correction ≡ over (3 * g) (fallenSlot base w bytes false (w .correction)) (w .correction))
+    × (nodes ≡ over g (fallenNode w bytes) (w .nodes))
+    × (growth ≡ over (3 * g) (fallenSlot base w 0 (w .growth)) (w .growth))
+    × (correction ≡ over (3 * g) (fallenSlot base w false (w .correction)) (w .correction))
 
 starts : (w : Window) (bytes : List ℕ) (n : ℕ) → n ≡ nodesOf (w .shape .height) (w .shape .distance)
     → Sinking w bytes n (w .nodes) (w .growth) (w .correction) (record { depth = 0; row = 0; column = 0 }) 0
@@ -56,17 +56,17 @@ module _ (w : Window) (bytes : List ℕ) (n : ℕ) (nodes : List Node) (growth :
       above-is = omega arith
 
       -- a node's three slots, of growth and of correction alike
-      slots : {A : Type 0} (none : A) (old now : List A) (x y z : A) → length old ≡ 10800 → now ≡ over (3 * g) (fallenSlot base w bytes none old) old
+      slots : {A : Type 0} (none : A) (old now : List A) (x y z : A) → length old ≡ 10800 → now ≡ over (3 * g) (fallenSlot base w none old) old
           → x ≡ if (eqb (q .depth) 0) none (getD old (3 * a) none)
           → y ≡ if (eqb (q .depth) 0) none (getD old (3 * a + 1) none)
           → z ≡ if (leb (q .depth) 1) none (getD old (3 * a + 2) none)
-          → set (set (set now (3 * g) x) (3 * g + 1) y) (3 * g + 2) z ≡ over (3 * (g + 1)) (fallenSlot base w bytes none old) old
+          → set (set (set now (3 * g) x) (3 * g + 1) y) (3 * g + 2) z ≡ over (3 * (g + 1)) (fallenSlot base w none old) old
       slots none old now x y z f e p₀ p₁ p₂ =
           let high = range .h1 in
           let low : 3 * g + 2 < length old = omega (arith, f, v .1) in
           let more : 3 * g + 3 ≡ 3 * (g + 1) = omega arith in
-          let first : x ≡ fallenSlot base w bytes none old (3 * g) = rw add-zero at (fallen-slot w bytes g q here high none old 0 a (eqb (q .depth) 0) x (omega arith) above-is (top-row w bytes g q here high) (rw add-zero p₀)) in
-          rw more at (over-three (fallenSlot base w bytes none old) old (3 * g) now x y z low e first
+          let first : x ≡ fallenSlot base w none old (3 * g) = rw add-zero at (fallen-slot w bytes g q here high none old 0 a (eqb (q .depth) 0) x (omega arith) above-is (top-row w bytes g q here high) (rw add-zero p₀)) in
+          rw more at (over-three (fallenSlot base w none old) old (3 * g) now x y z low e first
           (fallen-slot w bytes g q here high none old 1 a (eqb (q .depth) 0) y (omega arith) above-is (top-column w bytes g q here high) p₁)
           (fallen-slot w bytes g q here high none old 2 a (leb (q .depth) 1) z (omega arith) above-is (top-time w bytes g q here high) p₂))
 
@@ -85,7 +85,7 @@ module _ (w : Window) (bytes : List ℕ) (n : ℕ) (nodes : List Node) (growth :
         omega arith,
         v .1,
         λ high. walks (w .shape .height) (w .shape .distance) q q' g high here f,
-        over-next (fallenNode base w bytes) (w .nodes) g nodes node (omega (arith, v .1)) (v .3) (fallen-node w bytes g q here (range .h1) k a node s up e),
+        over-next (fallenNode w bytes) (w .nodes) g nodes node (omega (arith, v .1)) (v .3) (fallen-node w bytes g q here (range .h1) k a node s up e),
         slots 0 (w .growth) growth x y z full-growth (v .4) p₀ p₁ p₂,
         slots false (w .correction) correction x' y' z' full-correction (v .5) r₀ r₁ r₂,
       )
