@@ -36,7 +36,7 @@ fn numbers(shape: Shape) -> usize
 // Pointers go along edges, except that a bottom detector's may be D in stage to grow.
 fn pointer_fits(shape: Shape, stage: Stage, place: Place, g: usize, pointer: u8) -> bool
     requires { ⌜ Stands (shape .height) (shape .distance) place g ⌝ }
-    ensures { λ r. ⌜ r ≡ pointerFits base stage (shape .height) (shape .distance) place pointer ⌝ }
+    ensures { λ r. ⌜ r ≡ pointerFits base stage (shape .height) (shape .distance) (sheetsOf (shape .distance)) place pointer ⌝ }
 {
     if pointer == 0 {
         return true;
@@ -53,7 +53,7 @@ fn pointer_fits(shape: Shape, stage: Stage, place: Place, g: usize, pointer: u8)
 fn node_fits(shape: Shape, stage: Stage, marks: usize, place: Place, g: usize, node: Node) -> bool
     requires { ⌜ Stands (shape .height) (shape .distance) place g ⌝ }
     requires { ⌜ marks ≡ nodesIn (shape .height) (shape .distance) (sheetsOf (shape .distance) + 1) ⌝ }
-    ensures { λ r. ⌜ r ≡ nodeFits base stage (shape .height) (shape .distance) place node ⌝ }
+    ensures { λ r. ⌜ r ≡ nodeFits base stage (shape .height) (shape .distance) (sheetsOf (shape .distance)) place node ⌝ }
 {
     let mark = node.mark;
     if !mark_fits(stage, marks, mark) {

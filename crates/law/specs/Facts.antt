@@ -69,7 +69,7 @@ pub data Pointing (T : Table) (stage : Stage) (h d : ℕ) (q : Place) (p : ℕ) 
   out : isToGrow stage ≡ true → q .depth + 1 ≡ sheetsOf d → boundary d (q .column) ≡ false → falls T p ≡ true → Pointing T stage h d q p
 
 module _ (T : Table) (stage : Stage) (h d : ℕ) (q : Place) where
-  pointing : (p : ℕ) → pointerFits T stage h d q p ≡ true → Pointing T stage h d q p
+  pointing : (p : ℕ) → pointerFits T stage h d (sheetsOf d) q p ≡ true → Pointing T stage h d q p
   unfolding pointerFits
   pointing p e =
       choice _ _ e
@@ -80,7 +80,7 @@ module _ (T : Table) (stage : Stage) (h d : ℕ) (q : Place) where
       let k = halves _ _ (g .0) in
       out (k .0) (eqb-true _ _ (k .1)) (not-true _ (g .1)) (f .1))
 
-  pointer-by : (p : ℕ) → Pointing T stage h d q p → pointerFits T stage h d q p ≡ true
+  pointer-by : (p : ℕ) → Pointing T stage h d q p → pointerFits T stage h d (sheetsOf d) q p ≡ true
   unfolding pointerFits
   pointer-by p (centre e) = either _ _ (either _ _ (eq-eqb p 0 e))
   pointer-by p (along j) = either _ _ (other (eqb p 0) _ (edge-there T h d (sheetsOf d) p q j))
@@ -93,14 +93,14 @@ module _ (T : Table) (stage : Stage) (h d : ℕ) (q : Place) where
     pub pointer : Pointing T stage h d q (n .pointer)
     pub defect : defectFits d q (n .defect) ≡ true
 
-  pub fits : (n : Node) → nodeFits T stage h d q n ≡ true → Fits n
+  pub fits : (n : Node) → nodeFits T stage h d (sheetsOf d) q n ≡ true → Fits n
   unfolding nodeFits
   fits n e =
       let a = halves _ _ e in
       let b = halves _ _ (a .0) in
       record { mark = b .0; pointer = pointing (n .pointer) (b .1); defect = a .1 }
 
-  pub fits-by : (n : Node) → Fits n → nodeFits T stage h d q n ≡ true
+  pub fits-by : (n : Node) → Fits n → nodeFits T stage h d (sheetsOf d) q n ≡ true
   unfolding nodeFits
   fits-by n f = both _ _ (both _ _ (f .mark) (pointer-by (n .pointer) (f .pointer))) (f .defect)
 

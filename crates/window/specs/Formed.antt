@@ -8,7 +8,7 @@ use Rattle.shape.specs.Sizes.{sheetsOf, boundary, inRange, nodesIn}
 use Rattle.shape.specs.Steps.{Table}
 use Rattle.shape.specs.declared.Place.{Place}
 use Rattle.window.specs.Lists.{every, all}
-use Rattle.window.specs.Window.{isToGrow, isMerging, falls, namer, reach, size, at, place, to}
+use Rattle.window.specs.Window.{isToGrow, isMerging, falls, namer, reach, size, present, at, place, to}
 use Rattle.window.specs.declared.Mark.{Mark}
 use Rattle.window.specs.declared.Mark.the-variants.{Reset, Root}
 use Rattle.window.specs.declared.Stage.{Stage}
@@ -28,21 +28,21 @@ isZero (Root m) = eqb m 0
 abbrev pub unusedNode : Node → Bool
 unusedNode n = not (n .active) && not (n .defect) && not (n .unrooted) && eqb (n .pointer) 0 && isZero (n .mark)
 
--- pointers along edges of the window, except that a bottom detector's may be D in stage to grow
-unfoldable pub pointerFits : Table → Stage → ℕ → ℕ → Place → ℕ → Bool
-pointerFits T stage h d q p =
+-- pointers along edges of the window, k sheets being present, except that a bottom detector's may be D in stage to grow
+unfoldable pub pointerFits : Table → Stage → ℕ → ℕ → ℕ → Place → ℕ → Bool
+pointerFits T stage h d k q p =
     eqb p 0
-    || reach T h d (sheetsOf d) p q .there
+    || reach T h d k p q .there
     || isToGrow stage && eqb (q .depth + 1) (sheetsOf d) && not (boundary d (q .column)) && falls T p
 
 -- no defect on a boundary
 abbrev pub defectFits : ℕ → Place → Bool → Bool
 defectFits d q defect = not (boundary d (q .column) && defect)
 
-unfoldable pub nodeFits : Table → Stage → ℕ → ℕ → Place → Node → Bool
-nodeFits T stage h d q n =
+unfoldable pub nodeFits : Table → Stage → ℕ → ℕ → ℕ → Place → Node → Bool
+nodeFits T stage h d k q n =
     markFits stage (nodesIn h d (sheetsOf d + 1)) (n .mark)
-    && pointerFits T stage h d q (n .pointer)
+    && pointerFits T stage h d k q (n .pointer)
     && defectFits d q (n .defect)
 
 abbrev pub isEmpty : ℕ → Bool
@@ -54,7 +54,7 @@ slotFits there halves correction = leb halves 2 && (there || isEmpty halves && n
 
 module _ (T : Table) (w : Window) where
   abbrev pub nodeFitsAt : ℕ → Bool
-  nodeFitsAt g = nodeFits T (w .stage) (w .shape .height) (w .shape .distance) (place w g) (at w g)
+  nodeFitsAt g = nodeFits T (w .stage) (w .shape .height) (w .shape .distance) (present w) (place w g) (at w g)
 
   -- node g's own edge of a kind
   unfoldable pub slotFitsAt : ℕ → ℕ → Bool

@@ -79,7 +79,7 @@ module _ (w : Window) where
   abbrev pub sheet : ℕ
   sheet = w .shape .height * (w .shape .distance + 1)
 
-  -- the sheets that are there
+  -- the sheets that are there: presence is asked here alone
   abbrev pub present : ℕ
   present = sheetsOf (w .shape .distance)
 

@@ -22,24 +22,24 @@ module _ (stage : Stage) (h d : ℕ) (q : Place) (n : Node) where
   mark = markFits stage numbers (n .mark)
 
   pointer : Bool
-  pointer = pointerFits base stage h d q (n .pointer)
+  pointer = pointerFits base stage h d (sheetsOf d) q (n .pointer)
 
   defect : Bool
   defect = defectFits d q (n .defect)
 
-  no-mark : (m : ℕ) (a : Bool) → m ≡ numbers → a ≡ markFits stage m (n .mark) → a ≡ false → false ≡ nodeFits base stage h d q n
+  no-mark : (m : ℕ) (a : Bool) → m ≡ numbers → a ≡ markFits stage m (n .mark) → a ≡ false → false ≡ nodeFits base stage h d (sheetsOf d) q n
   unfolding nodeFits mark pointer defect
   no-mark m a e f g =
       let x : mark ≡ false = rw (← e) (sym f ∙ g) in
       sym (and-not (mark && pointer) defect (and-not mark pointer x))
 
-  no-pointer : (a : Bool) → a ≡ pointerFits base stage h d q (n .pointer) → a ≡ false → false ≡ nodeFits base stage h d q n
+  no-pointer : (a : Bool) → a ≡ pointerFits base stage h d (sheetsOf d) q (n .pointer) → a ≡ false → false ≡ nodeFits base stage h d (sheetsOf d) q n
   unfolding nodeFits mark pointer defect
   no-pointer a f g = sym (and-not (mark && pointer) defect (and-no mark pointer (sym f ∙ g)))
 
   all-fit : (m : ℕ) (a b : Bool) (edge : Bool) → m ≡ numbers → a ≡ markFits stage m (n .mark) → a ≡ true
-      → b ≡ pointerFits base stage h d q (n .pointer) → b ≡ true → edge ≡ boundary d (q .column)
-      → not (edge && n .defect) ≡ nodeFits base stage h d q n
+      → b ≡ pointerFits base stage h d (sheetsOf d) q (n .pointer) → b ≡ true → edge ≡ boundary d (q .column)
+      → not (edge && n .defect) ≡ nodeFits base stage h d (sheetsOf d) q n
   unfolding nodeFits
   all-fit m a b edge e f g i j k = rw (← e, ← f, g, ← i, j, k)
 

@@ -21,18 +21,18 @@ second true b c e = refl
 second false b c e = rw e
 
 module _ (stage : Stage) (h d : ℕ) (q : Place) (p : ℕ) where
-  stays-fit : p ≡ 0 → true ≡ pointerFits base stage h d q p
+  stays-fit : p ≡ 0 → true ≡ pointerFits base stage h d (sheetsOf d) q p
   unfolding pointerFits
   stays-fit e = rw (eq-eqb p 0 e)
 
   module _ (y : Way) where
-    goes-fit : y ≡ reach base h d (sheetsOf d) p q → y .there ≡ true → true ≡ pointerFits base stage h d q p
+    goes-fit : y ≡ reach base h d (sheetsOf d) p q → y .there ≡ true → true ≡ pointerFits base stage h d (sheetsOf d) q p
     unfolding pointerFits
     goes-fit e t = second (eqb p 0) (reach base h d (sheetsOf d) p q .there) _ (rw (← e) t)
 
     falls-fit : (grows : Bool) (s : ℕ) (edge : Bool) → (p ≡ 0 → ⊥) → y ≡ reach base h d (sheetsOf d) p q → y .there ≡ false
         → grows ≡ isToGrow stage → s ≡ sheetsOf d → edge ≡ boundary d (q .column)
-        → grows && eqb (q .depth + 1) s && not edge && eqb p 5 ≡ pointerFits base stage h d q p
+        → grows && eqb (q .depth + 1) s && not edge && eqb p 5 ≡ pointerFits base stage h d (sheetsOf d) q p
     unfolding pointerFits
     falls-fit grows s edge n e t k l m = rw (ne-eqb p 0 n, ← e, t, falls-down p, k, l, m)
 

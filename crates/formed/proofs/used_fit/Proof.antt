@@ -43,7 +43,7 @@ module _ (w : Window) (g : ℕ) where
       sym (both (every (size w) (nodeFitsAt base w)) (every (size w) (slotsFitAt w)) (subst (λ (k : ℕ). every k (nodeFitsAt base w) ≡ true) e p) (subst (λ (k : ℕ). every k (slotsFitAt w) ≡ true) e q))
 
 module _ (w : Window) (g : ℕ) (q : Place) (e : q ≡ place w g) where
-  node-fits-at : (n : Node) (a : Bool) → n ≡ at w g → a ≡ nodeFits base (w .stage) (w .shape .height) (w .shape .distance) q n → a ≡ nodeFitsAt base w g
+  node-fits-at : (n : Node) (a : Bool) → n ≡ at w g → a ≡ nodeFits base (w .stage) (w .shape .height) (w .shape .distance) (sheetsOf (w .shape .distance)) q n → a ≡ nodeFitsAt base w g
   node-fits-at n a f p = rw (← e, ← f) p
 
   -- the slot of a kind, found by the pointer p and read at the place i
