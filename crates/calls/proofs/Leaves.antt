@@ -1,16 +1,16 @@
 -- What a call leaves, by what its tests say. Assumes nothing.
 use Prim.Native.Nat.{ℕ, _<_, _≤_}
 use Rattle.walk.specs.Ways.{less}
-use mathlib.Core.Path.{_≡_, refl, sym, _∙_, ap, subst}
-use mathlib.Core.Bool.{Bool, true, false, _&&_}
+use mathlib.Core.Path.{_≡_, refl, sym, _∙_, ap}
+use mathlib.Core.Bool.{Bool, true, false}
 use mathlib.Core.List.{List, [], _∷_}
 use borrow.Author.Tests.{ltb-true, eqb-true, lt-ltb, le-ltb, eq-eqb, ne-eqb}
 use native.Mathlib.Omega.{arith}
-use lib.Dec.{ltb, leb, eqb}
+use lib.Dec.{ltb, eqb}
 use lib.ListN.{length, replicate}
 use Rattle.refusal.specs.Answer.{Answer, done, refused, turned, unless, passed, valueOr, andThen, itself}
 use Rattle.refusal.specs.Laws.{turned-not, turned-passed, value-not, turned-as}
-use Rattle.refusal.specs.Tests.{Passes, Turns, Turned, pass-one, pass-none, turn-here, turn-later, tests-fine, tests-turned}
+use Rattle.refusal.specs.Tests.{Passes, Turns, pass-one, pass-none, turn-here, turn-later, tests-fine, tests-turned}
 use Rattle.refusal.specs.Done.{took}
 use Rattle.refusal.specs.declared.Refusal.{Refusal}
 use Rattle.shape.specs.Ranges.{halves, both}

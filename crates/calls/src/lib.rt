@@ -12,7 +12,6 @@ ghost use mathlib.Core.Bool.{true};
 ghost use Rattle.refusal.specs.Answer.{done, unless, itself};
 ghost use Rattle.shape.specs.Sizes.{inRange};
 ghost use Rattle.shape.specs.Steps.{base};
-ghost use Rattle.window.specs.Window.{isRest, isToGrow, isMerging};
 ghost use Rattle.window.specs.Fresh.{freshWindow, noWindow};
 ghost use Rattle.window.specs.Calls.{told, given, leaves, roundTests, freshCall, growCall};
 ghost use Rattle.calls.specs.Answers.{received, roundLeaves, toldMerged, mergingLeaves};

@@ -13,7 +13,7 @@ ghost use Rattle.shape.specs.Sizes.{sheetsOf, nodesIn};
 ghost use Rattle.shape.specs.Steps.{base};
 ghost use Rattle.walk.specs.Walk.{Stands};
 ghost use Rattle.window.specs.Lists.{every, all};
-ghost use Rattle.window.specs.Window.{isMerging, isToGrow, reach, size};
+ghost use Rattle.window.specs.Window.{reach, size};
 ghost use Rattle.window.specs.Formed.{markFits, isZero, unusedNode, pointerFits, nodeFits, isEmpty, slotFits, nodeFitsAt, slotFitsAt, wellFormed};
 
 // Marks are numbers of nodes, reset only in stage merging.

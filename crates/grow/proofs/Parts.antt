@@ -1,23 +1,19 @@
 -- What an edge gains and when a node is cut, by the tests that the code makes. Assumes nothing.
-use Prim.Native.Nat.{ℕ, zero, suc, _+_, _-_, _*_, _/_, _%_, _≤_, _<_, min}
-use native.Mathlib.Nat.{mul-comm}
+use Prim.Native.Nat.{ℕ, _+_, _-_, _*_, _≤_, _<_}
 use native.Mathlib.Omega.{arith}
-use mathlib.Core.Path.{_≡_, refl, sym, _∙_, ap, subst}
+use mathlib.Core.Path.{_≡_, sym, _∙_}
 use mathlib.Core.Bool.{Bool, true, false, _&&_}
 use mathlib.Core.List.{List}
-use borrow.Author.Tests.{eq-eqb, ne-eqb}
 use lib.Dec.{eqb}
 use lib.ListN.{length, getD, set}
 use Rattle.shape.specs.Choice.{if, if-true, if-false}
-use Rattle.shape.specs.Sizes.{sheetsOf, nodesOf}
-use Rattle.shape.specs.Ranges.{Ranged}
+use Rattle.shape.specs.Sizes.{sheetsOf}
 use Rattle.walk.specs.LawsWalk.{slot-at, falls-down}
-use Rattle.shape.specs.Nodes.{placeAt}
 use Rattle.shape.specs.Steps.{base}
 use Rattle.shape.specs.declared.Place.{Place}
 use Rattle.window.specs.Lists.{bit, over}
-use Rattle.window.specs.LawsLists.{over-three, over-next}
-use Rattle.window.specs.Window.{beyond, falls, naming, namer, size, at, place, reach}
+use Rattle.window.specs.LawsLists.{over-three}
+use Rattle.window.specs.Window.{falls, namer, size, at, place, reach}
 use Rattle.window.specs.Grow.{gains, cut, grownSlot, grownNode, grown}
 use Rattle.window.specs.declared.Stage.the-variants.{Merging}
 use Rattle.window.specs.declared.Node.{Node}

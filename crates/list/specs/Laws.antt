@@ -1,12 +1,12 @@
 -- Laws of written and read lists, for those who use the definitions. Assumes nothing.
 use Prim.Native.Nat.{ℕ, zero, suc, _+_, _-_, _*_, _≤_, _<_}
 use native.Mathlib.Omega.{arith}
-use mathlib.Core.Path.{_≡_, refl, sym, _∙_, ap, subst}
+use mathlib.Core.Path.{_≡_, refl, sym, _∙_, ap}
 use mathlib.Core.Bool.{Bool, true, false}
 use mathlib.Core.List.{List, [], _∷_, _++_}
-use borrow.Author.Tests.{lt-ltb, le-ltb, le-leb, lt-leb, eq-eqb, ne-eqb, eqb-true, ltb-true, ltb-false, leb-true, leb-false}
+use borrow.Author.Tests.{lt-ltb, le-ltb, le-leb, lt-leb, eq-eqb, ne-eqb, eqb-true, ltb-true, ltb-false}
 use lib.Dec.{ltb, leb, eqb}
-use lib.ListN.{length, set, replicate, length-append, length-set, length-replicate}
+use lib.ListN.{length, set, replicate, length-append, length-set}
 use Rattle.refusal.specs.Answer.{Answer, done, ended, refused, refusedAt, andThen, isDone, passed}
 use Rattle.refusal.specs.Laws.{not-done}
 use Rattle.refusal.specs.Done.{goes-on, passes, fails}

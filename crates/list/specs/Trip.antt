@@ -1,6 +1,6 @@
 -- A sheet list once written is read back, and one that is read is written so: there and back, byte for byte. Assumes nothing.
 use Prim.Native.Nat.{ℕ, zero, suc, _+_, _-_, _≤_, _<_}
-use native.Mathlib.Nat.{add-zero, zero-add, le-step}
+use native.Mathlib.Nat.{add-zero, zero-add}
 use native.Mathlib.Numerals.{add-one}
 use native.Mathlib.Omega.{arith}
 use mathlib.Core.Path.{_≡_, refl, sym, _∙_, ap, ap₂, subst₂}
@@ -9,9 +9,9 @@ use mathlib.Core.List.{List, [], _∷_, _++_, append-assoc, append-nil}
 use lib.Dec.{ltb, leb}
 use lib.ListN.{length, drop, set, replicate, length-append, length-replicate, replicate-append-replicate}
 use lib.Seq.{set-at, append-snoc}
-use borrow.Author.Tests.{lt-ltb, le-leb, lt-leb, ltb-true}
-use Rattle.refusal.specs.Answer.{Answer, done, refusedAt, andThen}
-use Rattle.refusal.specs.Done.{goes-on, Went, went, passes, took}
+use borrow.Author.Tests.{lt-leb, ltb-true}
+use Rattle.refusal.specs.Answer.{done, refusedAt}
+use Rattle.refusal.specs.Done.{Went, went, took}
 use Rattle.refusal.specs.Ends.{NoEnd, no-end-then, no-end-test}
 use Rattle.refusal.specs.Bytes.{Bytes}
 use Rattle.refusal.specs.Filling.{drop-part}

@@ -1,14 +1,14 @@
 -- Laws of written and read numbers, for those who use the definitions. Assumes nothing.
 use Prim.Native.Nat.{ℕ, zero, suc, _+_, _-_, _*_, _/_, _%_, _^_, _≤_, _<_}
 use native.Mathlib.Omega.{arith}
-use mathlib.Core.Path.{_≡_, refl, sym, _∙_, ap, subst}
+use mathlib.Core.Path.{_≡_, refl, sym, _∙_, ap}
 use mathlib.Core.Bool.{Bool, true, false, _&&_}
-use mathlib.Core.List.{List, [], _∷_, _++_}
+use mathlib.Core.List.{List, [], _∷_}
 use lib.Dec.{ltb, leb, eqb}
 use lib.ListN.{length, getD}
 use lib.Pow.{pow-add, pow-mono}
 use borrow.Author.Tests.{lt-ltb, le-ltb, le-leb, lt-leb, ltb-true, ltb-false}
-use Rattle.refusal.specs.Answer.{Answer, done, refused, refusedAt, unless}
+use Rattle.refusal.specs.Answer.{Answer, done, refused, refusedAt}
 use Rattle.refusal.specs.Done.{passes, fails}
 use Rattle.number.specs.Number.{groups, written, groupAt, lastGroup, numberAt, most, largest}
 

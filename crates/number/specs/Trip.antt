@@ -7,8 +7,8 @@ use mathlib.Core.Bool.{Bool, true, false, _&&_}
 use mathlib.Core.List.{List, _∷_, _++_}
 use lib.Dec.{ltb, leb, eqb}
 use lib.ListN.{length, drop, getD}
-use borrow.Author.Tests.{lt-ltb, le-leb, ne-eqb, ltb-true, ltb-false, leb-true, leb-false, eqb-false}
-use Rattle.refusal.specs.Answer.{Answer, done, refused, refusedAt}
+use borrow.Author.Tests.{lt-ltb, ne-eqb, ltb-true, ltb-false, leb-true, leb-false, eqb-false}
+use Rattle.refusal.specs.Answer.{done, refused, refusedAt}
 use Rattle.refusal.specs.Done.{never}
 use Rattle.refusal.specs.Ends.{NoEnd, no-end-test}
 use Rattle.refusal.specs.Bytes.{Bytes, Next, next-is, next-of, part-inside}

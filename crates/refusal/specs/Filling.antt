@@ -1,18 +1,17 @@
 -- A buffer that is filled from its front with the bytes of a record. Assumes nothing.
-use Prim.Native.Nat.{ℕ, zero, suc, _+_, _-_, _≤_, _<_}
-use native.Mathlib.Nat.{add-zero}
+use Prim.Native.Nat.{ℕ, suc, _+_, _-_, _≤_, _<_}
 use native.Mathlib.Numerals.{add-one}
 use native.Mathlib.Omega.{arith}
-use mathlib.Core.Path.{_≡_, refl, sym, _∙_, ap, subst}
-use mathlib.Core.List.{List, [], _∷_, _++_, append-assoc, append-nil}
-use lib.ListN.{length, take, drop, getD, set, length-append, length-drop, take-append-drop}
+use mathlib.Core.Path.{_≡_, refl, sym, _∙_, ap}
+use mathlib.Core.List.{List, [], _∷_, _++_, append-assoc}
+use lib.ListN.{length, take, drop, getD, set, length-append, length-drop}
 use borrow.Author.Tests.{le-leb, lt-leb}
-use mathlib.Core.Bool.{Bool, true, false}
+use mathlib.Core.Bool.{Bool}
 use Rattle.refusal.specs.Answer.{Answer, done, refused, turned, unless, valueOr}
 use Rattle.refusal.specs.Laws.{turned-not, value-not}
 use Rattle.refusal.specs.declared.Refusal.{Refusal}
 use Rattle.refusal.specs.Tests.{Passes, Turned, unless-append}
-use Rattle.refusal.specs.Writing.{Left, left, writing, room, laid, front, putTo}
+use Rattle.refusal.specs.Writing.{left, writing, room, laid, front, putTo}
 use lib.Seq.{take-suc, drop-cons, set-at, take-at, drop-at, take-add, drop-drop, take-length, length-take-le, append-snoc, take-append-seam}
 
 -- the first i bytes stand in the buffer

@@ -1,7 +1,7 @@
 -- Laws of answers. Assumes nothing.
 use Prim.Native.Nat.{ℕ}
 use mathlib.Core.Path.{_≡_, refl, sym, _∙_, ap}
-use mathlib.Core.Bool.{Bool, true, false}
+use mathlib.Core.Bool.{true, false}
 use native.Mathlib.Omega.{arith}
 use Rattle.refusal.specs.Answer.{Answer, done, ended, refused, refusedAt, Code, plain, placed, codeOf, byCode, turned, andThen, isDone, passed, valueOr}
 use Rattle.refusal.specs.declared.Refusal.{Refusal}

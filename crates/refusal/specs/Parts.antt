@@ -1,10 +1,10 @@
 -- A record that is put at a buffer's front in parts, one after another. Assumes nothing.
-use Prim.Native.Nat.{ℕ, _+_, _-_, _≤_, _<_}
+use Prim.Native.Nat.{ℕ, _+_, _-_, _≤_}
 use native.Mathlib.Omega.{arith}
 use mathlib.Core.Path.{_≡_, refl, sym, _∙_, ap, subst}
-use mathlib.Core.List.{List, [], _++_, append-assoc, append-nil}
-use lib.ListN.{length, take, drop, length-append, length-drop, length-take}
-use lib.Seq.{drop-at, take-at, length-take-le, drop-drop, drop-append-le, take-append-seam, take-length}
+use mathlib.Core.List.{List, [], _++_, append-nil}
+use lib.ListN.{length, take, drop, length-append, length-drop}
+use lib.Seq.{drop-at, length-take-le, drop-drop, take-append-seam}
 use Rattle.refusal.specs.Writing.{Put, putTo, front}
 use Rattle.refusal.specs.Filling.{filled, filled-part, filled-all, drop-part, length-filled, front-fits}
 use Rattle.refusal.specs.Tails.{tail, putBack, tail-fits}

@@ -1,16 +1,16 @@
 -- The tail of a buffer, lent to a writer and back in its place. Assumes nothing.
 use Prim.Native.Nat.{ℕ, _+_, _-_, _≤_, _<_}
 use native.Mathlib.Omega.{arith}
-use mathlib.Core.Path.{_≡_, refl, sym, _∙_, ap, subst}
+use mathlib.Core.Path.{_≡_, refl, _∙_, ap}
 use mathlib.Core.Bool.{Bool, true, false}
-use mathlib.Core.List.{List, [], _∷_, _++_, append-assoc, append-nil}
+use mathlib.Core.List.{List, [], _++_, append-assoc, append-nil}
 use borrow.Author.Tests.{leb-true, leb-false}
 use lib.Dec.{leb}
 use lib.ListN.{length, take, drop, length-drop, take-append-drop, drop-of-length-le}
 use lib.Seq.{take-all, drop-drop}
-use Rattle.refusal.specs.Answer.{Answer, done, refused}
+use Rattle.refusal.specs.Answer.{done, refused}
 use Rattle.refusal.specs.Tests.{Passes}
-use Rattle.refusal.specs.Writing.{Left, left, writing, Put, putTo, front, laid}
+use Rattle.refusal.specs.Writing.{left, writing, Put, putTo, front, laid}
 use Rattle.refusal.specs.Filling.{front-fits, front-full, writing-full, writing-done}
 
 -- the elements from the offset on, and the whole with others in their place

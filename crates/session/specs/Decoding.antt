@@ -3,7 +3,7 @@ use Prim.Native.Nat.{ℕ, zero, suc}
 use mathlib.Core.Bool.{true, false}
 use mathlib.Core.List.{List, [], _++_}
 use lib.ListN.{length, replicate}
-use Rattle.refusal.specs.Answer.{Answer, done, ended, refused, refusedAt}
+use Rattle.refusal.specs.Answer.{done, ended, refused, refusedAt}
 use Rattle.shape.specs.Sizes.{detectorsOf, layerEdgesOf}
 use Rattle.shape.specs.Steps.{Table}
 use Rattle.stream.specs.Records.{header, headerAt, roundAt, result}

@@ -21,7 +21,6 @@ use Rattle.window.specs.Merging as merging
 use Rattle.window.specs.Run as run
 use Rattle.window.specs.Calls as calls
 use Rattle.window.specs.declared.Window.{Window}
-use Rattle.shape.specs.declared.Shape.{Shape}
 use Rattle.session.specs.Decoding.{Decoded, finished, decoded, roundsFrom}
 
 -- all the rules, for `unfolding`

@@ -1,5 +1,5 @@
 -- The two kinds of round, of the input and of the result, each there and back by itself. Assumes nothing.
-use Prim.Native.Nat.{ℕ, _+_, _-_, _*_, _≤_, _<_}
+use Prim.Native.Nat.{ℕ, _+_, _-_, _*_, _≤_}
 use native.Mathlib.Nat.{mul-le-mul}
 use native.Mathlib.Omega.{arith}
 use mathlib.Core.Path.{_≡_, refl, sym, _∙_, ap, subst₂}
@@ -8,7 +8,7 @@ use mathlib.Core.List.{List, _++_, append-assoc}
 use lib.Dec.{ltb}
 use lib.ListN.{length, drop, length-append}
 use borrow.Author.Tests.{ltb-true, ltb-false}
-use Rattle.refusal.specs.Answer.{Answer, done, ended, andThen}
+use Rattle.refusal.specs.Answer.{Answer, done, ended}
 use Rattle.refusal.specs.Done.{Went, went, took}
 use Rattle.refusal.specs.Ends.{NoEnd, no-end, no-end-then}
 use Rattle.refusal.specs.Bytes.{Bytes, part-inside}

@@ -1,7 +1,7 @@
 -- What is seen of an answer, by its case; and what a height and a distance name. Assumes nothing.
 use Prim.Native.Nat.{ℕ}
 use mathlib.Core.Path.{_≡_, refl, sym, _∙_, ap}
-use mathlib.Core.List.{List, [], _∷_, _++_}
+use mathlib.Core.List.{[], _∷_}
 use lib.Dec.{leb}
 use Rattle.refusal.specs.Answer.{Answer, done, ended, Code, byCode, turned, valueOr}
 use Rattle.refusal.specs.Laws.{each, turned-not, value-not}
@@ -12,7 +12,7 @@ use Rattle.shape.specs.declared.Shape.{Shape}
 use Rattle.shape.specs.declared.Shaped.{Shaped}
 use Rattle.shape.specs.declared.Shaped.the-variants as shaped
 use Rattle.stream.specs.Calls.{placeTests}
-use Rattle.stream_c.specs.Seen.{Seen, seen, shown, shapeBy}
+use Rattle.stream_c.specs.Seen.{seen, shown, shapeBy}
 
 module _ {A : Type 0} (a : Answer A) (place : ℕ) where
   pub seen-done : (v : A) (next : ℕ) → a ≡ done v next → seen 0 next ≡ shown a place

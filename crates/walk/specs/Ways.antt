@@ -5,14 +5,13 @@ use native.Mathlib.Omega.{arith}
 use mathlib.Core.Path.{_≡_, refl, sym, _∙_, ap, subst}
 use mathlib.Core.Bool.{Bool, true, false, _&&_, _||_, not}
 use mathlib.Core.Logic.{⊎-elim}
-use borrow.Author.Tests.{lt-ltb, le-ltb, le-leb, ltb-true, ltb-false, eq-eqb, ne-eqb, eqb-true, eqb-false, not-true, not-false}
+use borrow.Author.Tests.{le-ltb, ltb-true, ltb-false, eq-eqb, ne-eqb, eqb-true, eqb-false, not-true, not-false}
 use lib.Dec.{ltb, leb, eqb}
 use Rattle.shape.specs.Choice.{tell, order}
 use Rattle.shape.specs.Sizes.{sheetsOf, boundary}
-use Rattle.shape.specs.Ranges.{Ranged, halves, both}
-use Rattle.shape.specs.Counting.{Inside}
+use Rattle.shape.specs.Ranges.{halves, both}
 use Rattle.shape.specs.Nodes.{indexOf}
-use Rattle.shape.specs.Steps.{Table, base, step, goes, fits, stays, alongRow, across, insideOf, bothDetectors, joined, near, slot, north, west, east, south, down, up}
+use Rattle.shape.specs.Steps.{base, step, goes, fits, stays, alongRow, across, insideOf, bothDetectors, joined, slot, north, west, east, south, down, up}
 use Rattle.shape.specs.Joins.{Joins, joined-by, near-at, near-none}
 use Rattle.shape.specs.LawsIndex.{index-lt, window-le}
 use Rattle.shape.specs.declared.Place.{Place}

@@ -1,6 +1,6 @@
 -- GROW. Assumes nothing.
 use Prim.Native.Nat.{ℕ, _+_, _*_, _/_, _%_, min}
-use mathlib.Core.Bool.{Bool, _&&_}
+use mathlib.Core.Bool.{_&&_}
 use lib.ListN.{getD}
 use Rattle.shape.specs.Choice.{if}
 use Rattle.shape.specs.Steps.{Table}

@@ -10,7 +10,6 @@ use Rattle.shape.specs.Steps.{Table, step, near, slot}
 use Rattle.shape.specs.declared.Place.{Place}
 use Rattle.shape.specs.declared.Step.{Step}
 use Rattle.shape.specs.declared.Found.the-variants.{At, Nowhere}
-use Rattle.window.specs.declared.Mark.{Mark}
 use Rattle.window.specs.declared.Mark.the-variants.{Reset, Root}
 use Rattle.window.specs.declared.Stage.{Stage}
 use Rattle.window.specs.declared.Stage.the-variants.{Rest, ToGrow, Merging}

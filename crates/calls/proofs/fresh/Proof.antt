@@ -1,18 +1,8 @@
-use mathlib.Core.Path.{_≡_, refl, sym, _∙_, ap}
-use mathlib.Core.Logic.{⊎-elim}
-use mathlib.Core.Bool.{Bool, true, false}
-use Prim.Native.Nat.{ℕ, _≤_, _<_, _-_, _+_, _*_}
-use native.Mathlib.Omega.{arith}
+use mathlib.Core.Path.{_∙_, ap}
+use Prim.Native.Nat.{_-_}
 use borrow.Author.Needs.{needs}
-use borrow.Author.Tests.{lt-ltb, le-ltb, le-leb, lt-leb, eq-eqb, ne-eqb, not-true, not-false}
-use lib.ListN.{length, drop, getD, set, length-map, length-set}
 use Rattle.calls.proofs.fresh.Statement.{statement}
 use Rattle.calls.proofs.fresh.Tie as tie
-use Rattle.calls.proofs.fresh.Reads as reads
-use Rattle.calls.proofs.fresh.Lts as lts
-use Rattle.calls.proofs.fresh_window.Reads as fresh-window-reads
-use Rattle.calls.proofs.no_window.Reads as no-window-reads
-use Rattle.shape.proofs.shape_of.Reads as shape-of-reads
 use Rattle.refusal.specs.Answer.{turned}
 use Rattle.window.specs.Calls.{given}
 use Rattle.window.specs.declared.Window.{Window}

@@ -1,20 +1,10 @@
-use mathlib.Core.Path.{_≡_, refl, sym, _∙_, ap, subst}
-use mathlib.Core.Logic.{⊎-elim}
-use mathlib.Core.Bool.{Bool, true, false}
-use Prim.Native.Nat.{ℕ, _≤_, _<_, _-_, _+_, _*_}
+use mathlib.Core.Path.{_≡_, sym, _∙_, ap, subst}
+use Prim.Native.Nat.{ℕ, _≤_, _<_, _-_, _+_}
 use native.Mathlib.Omega.{arith}
 use borrow.Author.Needs.{needs}
-use borrow.Author.Tests.{lt-ltb, le-ltb, le-leb, lt-leb, eq-eqb, ne-eqb, not-true, not-false}
-use lib.ListN.{length, replicate, length-replicate, drop, getD, set, length-map, length-set}
+use lib.ListN.{length, replicate, length-replicate}
 use Rattle.calls.proofs.fresh_window.Statement.{statement}
 use Rattle.calls.proofs.fresh_window.Tie as tie
-use Rattle.calls.proofs.fresh_window.Reads as reads
-use Rattle.calls.proofs.fresh_window.Lts as lts
-use Rattle.shape.proofs.nodes.Reads as nodes-reads
-use Rattle.shape.proofs.sheets.Reads as sheets-reads
-use Rattle.walk.proofs.next_place.Reads as next-place-reads
-use Rattle.walk.proofs.number.Reads as number-reads
-use Rattle.window.proofs.alone.Reads as alone-reads
 use Rattle.shape.specs.Sizes.{nodesOf}
 use Rattle.shape.specs.Ranges.{ranged, sheets-le}
 use Rattle.shape.specs.Nodes.{placeAt}

@@ -1,18 +1,9 @@
-use mathlib.Core.Path.{_≡_, refl, sym, _∙_, ap}
-use mathlib.Core.Logic.{⊎-elim}
-use mathlib.Core.Bool.{Bool, true, false}
-use Prim.Native.Nat.{ℕ, _≤_, _<_, _-_, _+_, _*_}
-use native.Mathlib.Omega.{arith}
+use mathlib.Core.Path.{sym, _∙_, ap}
+use Prim.Native.Nat.{_-_}
 use borrow.Author.Needs.{needs}
-use borrow.Author.Tests.{lt-ltb, le-ltb, le-leb, lt-leb, eq-eqb, ne-eqb, not-true, not-false}
-use lib.ListN.{length, drop, getD, set, length-map, length-set}
+use borrow.Author.Tests.{not-true, not-false}
 use Rattle.calls.proofs.grow.Statement.{statement}
 use Rattle.calls.proofs.grow.Tie as tie
-use Rattle.calls.proofs.grow.Reads as reads
-use Rattle.calls.proofs.grow.Lts as lts
-use Rattle.window.proofs.is_to_grow.Reads as is-to-grow-reads
-use Rattle.formed.proofs.well_formed.Reads as well-formed-reads
-use Rattle.grow.proofs.grow.Reads as grow-reads
 use Rattle.refusal.specs.Answer.{done, itself}
 use Rattle.shape.specs.Steps.{base}
 use Rattle.window.specs.Window.{isToGrow}

@@ -1,19 +1,10 @@
-use mathlib.Core.Path.{_≡_, refl, sym, _∙_, ap}
-use mathlib.Core.Logic.{⊎-elim}
-use mathlib.Core.Bool.{Bool, true, false}
-use Prim.Native.Nat.{ℕ, _≤_, _<_, _-_, _+_, _*_}
-use native.Mathlib.Omega.{arith}
+use mathlib.Core.Path.{sym, _∙_}
+use mathlib.Core.Bool.{true, false}
+use Prim.Native.Nat.{_-_}
 use borrow.Author.Needs.{needs}
-use borrow.Author.Tests.{lt-ltb, le-ltb, le-leb, lt-leb, eq-eqb, ne-eqb, not-true, not-false}
-use lib.ListN.{length, drop, getD, set, length-map, length-set}
+use borrow.Author.Tests.{not-true, not-false}
 use Rattle.calls.proofs.merging.Statement.{statement}
 use Rattle.calls.proofs.merging.Tie as tie
-use Rattle.calls.proofs.merging.Reads as reads
-use Rattle.calls.proofs.merging.Lts as lts
-use Rattle.window.proofs.is_rest.Reads as is-rest-reads
-use Rattle.window.proofs.is_merging.Reads as is-merging-reads
-use Rattle.formed.proofs.well_formed.Reads as well-formed-reads
-use Rattle.merge.proofs.merge.Reads as merge-reads
 use Rattle.shape.specs.Steps.{base}
 use Rattle.window.specs.Window.{isMerging}
 use Rattle.window.specs.Merging.{merged}

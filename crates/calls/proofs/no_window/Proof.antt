@@ -1,16 +1,7 @@
-use mathlib.Core.Path.{_≡_, refl, sym, _∙_, ap}
-use mathlib.Core.Logic.{⊎-elim}
-use mathlib.Core.Bool.{Bool, true, false}
-use Prim.Native.Nat.{ℕ, _≤_, _<_, _-_, _+_, _*_}
-use native.Mathlib.Omega.{arith}
+use Prim.Native.Nat.{_-_}
 use borrow.Author.Needs.{needs}
-use borrow.Author.Tests.{lt-ltb, le-ltb, le-leb, lt-leb, eq-eqb, ne-eqb, not-true, not-false}
-use lib.ListN.{length, drop, getD, set, length-map, length-set}
 use Rattle.calls.proofs.no_window.Statement.{statement}
 use Rattle.calls.proofs.no_window.Tie as tie
-use Rattle.calls.proofs.no_window.Reads as reads
-use Rattle.calls.proofs.no_window.Lts as lts
-use Rattle.window.proofs.alone.Reads as alone-reads
 use Rattle.window.specs.Fresh.{noWindow}
 
 -- src/lib.rt:43:17

@@ -1,20 +1,8 @@
-use mathlib.Core.Path.{_≡_, refl, sym, _∙_, ap}
-use mathlib.Core.Logic.{⊎-elim}
-use mathlib.Core.Bool.{Bool, true, false}
-use Prim.Native.Nat.{ℕ, _≤_, _<_, _-_, _+_, _*_}
-use native.Mathlib.Omega.{arith}
+use Prim.Native.Nat.{_-_}
 use borrow.Author.Needs.{needs}
-use borrow.Author.Tests.{lt-ltb, le-ltb, le-leb, lt-leb, eq-eqb, ne-eqb, not-true, not-false}
-use lib.ListN.{length, drop, getD, set, length-map, length-set}
+use lib.ListN.{length}
 use Rattle.calls.proofs.round.Statement.{statement}
 use Rattle.calls.proofs.round.Tie as tie
-use Rattle.calls.proofs.round.Reads as reads
-use Rattle.calls.proofs.round.Lts as lts
-use Rattle.calls.proofs.test_round.Reads as test-round-reads
-use Rattle.round.proofs.commit.Reads as commit-reads
-use Rattle.round.proofs.escape.Reads as escape-reads
-use Rattle.round.proofs.sink.Reads as sink-reads
-use Rattle.window.specs.Calls.{told}
 use Rattle.calls.proofs.Leaves.{round-refused, round-fine, round-done, formed-ranged}
 
 -- src/lib.rt:155:9

@@ -1,20 +1,10 @@
-use mathlib.Core.Path.{_≡_, refl, sym, _∙_, ap}
-use mathlib.Core.Logic.{⊎-elim}
-use mathlib.Core.Bool.{Bool, true, false}
-use Prim.Native.Nat.{ℕ, _≤_, _<_, _-_, _+_, _*_}
+use mathlib.Core.Path.{sym, _∙_}
+use Prim.Native.Nat.{_-_}
 use native.Mathlib.Omega.{arith}
 use borrow.Author.Needs.{needs}
-use borrow.Author.Tests.{lt-ltb, le-ltb, le-leb, lt-leb, eq-eqb, ne-eqb, not-true, not-false}
-use lib.ListN.{length, drop, getD, set, length-map, length-set}
+use borrow.Author.Tests.{not-true, not-false}
 use Rattle.calls.proofs.test_round.Statement.{statement}
 use Rattle.calls.proofs.test_round.Tie as tie
-use Rattle.calls.proofs.test_round.Reads as reads
-use Rattle.calls.proofs.test_round.Lts as lts
-use Rattle.window.proofs.is_rest.Reads as is-rest-reads
-use Rattle.formed.proofs.well_formed.Reads as well-formed-reads
-use Rattle.list.proofs.are_bits.Reads as are-bits-reads
-use Rattle.shape.proofs.detectors.Reads as detectors-reads
-use Rattle.shape.proofs.layer_edges.Reads as layer-edges-reads
 use Rattle.calls.proofs.Leaves.{early-by, same-by, other-by, turned-21, turned-22, turned-23, turned-3, turned-5, turned-6, turned-4, all-passed}
 
 -- src/lib.rt:127:9

@@ -1,16 +1,7 @@
-use mathlib.Core.Path.{_≡_, refl, sym, _∙_, ap}
-use mathlib.Core.Logic.{⊎-elim}
-use mathlib.Core.Bool.{Bool, true, false}
-use Prim.Native.Nat.{ℕ, _≤_, _<_, _-_, _+_, _*_}
-use native.Mathlib.Omega.{arith}
+use Prim.Native.Nat.{_-_}
 use borrow.Author.Needs.{needs}
-use borrow.Author.Tests.{lt-ltb, le-ltb, le-leb, lt-leb, eq-eqb, ne-eqb, not-true, not-false}
-use lib.ListN.{length, drop, getD, set, length-map, length-set}
 use Rattle.grow.proofs.cut_down.Statement.{statement}
 use Rattle.grow.proofs.cut_down.Tie as tie
-use Rattle.grow.proofs.cut_down.Reads as reads
-use Rattle.grow.proofs.cut_down.Lts as lts
-use Rattle.shape.proofs.sheets.Reads as sheets-reads
 use Rattle.grow.proofs.Parts.{cut-yes, cut-no}
 
 -- src/lib.rt:50:9

@@ -1,16 +1,9 @@
-use mathlib.Core.Path.{_≡_, refl, sym, _∙_, ap}
-use mathlib.Core.Logic.{⊎-elim}
-use mathlib.Core.Bool.{Bool, true, false}
-use Prim.Native.Nat.{ℕ, _≤_, _<_, _-_, _+_, _*_}
+use Prim.Native.Nat.{_-_}
 use native.Mathlib.Omega.{arith}
 use borrow.Author.Needs.{needs}
-use borrow.Author.Tests.{lt-ltb, le-ltb, le-leb, lt-leb, eq-eqb, ne-eqb, not-true, not-false}
-use lib.ListN.{length, drop, getD, set, length-map, length-set}
+use borrow.Author.Tests.{not-true, not-false}
 use Rattle.grow.proofs.gain.Statement.{statement}
 use Rattle.grow.proofs.gain.Tie as tie
-use Rattle.grow.proofs.gain.Reads as reads
-use Rattle.grow.proofs.gain.Lts as lts
-use Rattle.window.proofs.bit.Reads as bit-reads
 use Rattle.grow.proofs.Parts.{gains-none, gains-full, gains-capped, gains-sum, bit-low}
 
 -- src/lib.rt:34:9

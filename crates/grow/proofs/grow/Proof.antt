@@ -1,27 +1,17 @@
-use mathlib.Core.Path.{_≡_, refl, sym, _∙_, ap}
-use mathlib.Core.Logic.{⊎-elim}
-use mathlib.Core.Bool.{Bool, true, false}
+use mathlib.Core.Path.{_≡_, refl, sym}
 use Prim.Native.Nat.{ℕ, _≤_, _<_, _-_, _+_, _*_}
 use native.Mathlib.Omega.{arith}
 use borrow.Author.Needs.{needs}
-use borrow.Author.Tests.{lt-ltb, le-ltb, le-leb, lt-leb, eq-eqb, ne-eqb, not-true, not-false}
-use lib.ListN.{length, drop, getD, set, length-map, length-set}
+use lib.ListN.{length, length-map}
 use Rattle.grow.proofs.grow.Statement.{statement}
 use Rattle.grow.proofs.grow.Tie as tie
-use Rattle.grow.proofs.grow.Reads as reads
-use Rattle.grow.proofs.grow.Lts as lts
-use Rattle.grow.proofs.cut_down.Reads as cut-down-reads
-use Rattle.grow.proofs.gain.Reads as gain-reads
-use Rattle.shape.proofs.nodes.Reads as nodes-reads
-use Rattle.walk.proofs.next_place.Reads as next-place-reads
-use Rattle.walk.proofs.reach.Reads as reach-reads
 use Rattle.shape.specs.Nodes.{placeAt}
 use Rattle.shape.specs.Steps.{base}
 use Rattle.walk.specs.Walk.{Stands}
 use Rattle.walk.specs.LawsWalk.{first-place, stands-at, stands-low, depth-low, walks-on, ends-low, named-east, named-south, named-up}
 use Rattle.window.specs.Lists.{over}
-use Rattle.window.specs.LawsLists.{over-none, over-next, over-three}
-use Rattle.window.specs.Grow.{grownNode, grownSlot, grown}
+use Rattle.window.specs.LawsLists.{over-none, over-next}
+use Rattle.window.specs.Grow.{grownNode, grownSlot}
 use Rattle.grow.proofs.Parts.{node-by, slot-by, three, finished}
 use Rattle.window.specs.Window.{size}
 

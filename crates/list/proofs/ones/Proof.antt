@@ -1,5 +1,5 @@
 -- `list::ones` meets its contract: those counted and those to come are all. Assumes nothing.
-use mathlib.Core.Path.{_≡_, refl, sym, _∙_, ap}
+use mathlib.Core.Path.{_≡_, _∙_, ap}
 use mathlib.Core.List.{List}
 use Prim.Native.Nat.{ℕ, _≤_, _<_, _-_, _+_}
 use native.Mathlib.Omega.{arith}
@@ -7,7 +7,7 @@ use borrow.Author.Needs.{needs}
 use lib.ListN.{length, drop, getD, drop-of-length-le}
 use Rattle.refusal.specs.Bytes.{next-of}
 use Rattle.list.specs.Sheet.{ones}
-use Rattle.list.specs.Laws.{ones-set, ones-unset, ones-nil, ones-le}
+use Rattle.list.specs.Laws.{ones-set, ones-unset, ones-nil}
 use Rattle.list.proofs.ones.Statement.{statement}
 use Rattle.list.proofs.ones.Tie as tie
 

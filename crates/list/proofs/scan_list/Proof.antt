@@ -1,17 +1,17 @@
 -- `list::scan_list` meets its contract: the entries that are left end as the whole list does. Assumes nothing.
-use mathlib.Core.Path.{_≡_, refl, sym, _∙_, ap}
-use mathlib.Core.Bool.{Bool, true, false}
+use mathlib.Core.Path.{_≡_, sym, _∙_, ap}
+use mathlib.Core.Bool.{false}
 use mathlib.Core.List.{List}
 use Prim.Native.Nat.{ℕ, _≤_, _<_, _-_, _+_}
 use native.Mathlib.Omega.{arith}
 use borrow.Author.Needs.{needs}
-use lib.ListN.{length, set, replicate, length-set, length-replicate}
-use Rattle.refusal.specs.Answer.{Answer, done, refusedAt, passed, isDone, turned}
+use lib.ListN.{set, replicate, length-set, length-replicate}
+use Rattle.refusal.specs.Answer.{Answer, done, refusedAt, passed, isDone}
 use Rattle.refusal.specs.Laws.{turned-not}
 use Rattle.refusal.specs.declared.Refusal.{Refusal}
 use Rattle.number.specs.Number.{numberAt, told}
 use Rattle.number.specs.declared.Read.{Read}
-use Rattle.number.specs.declared.Read.the-variants.{Number, Refused}
+use Rattle.number.specs.declared.Read.the-variants.{Refused}
 use Rattle.list.specs.Sheet.{entriesAt, listAt}
 use Rattle.list.specs.Laws.{list-turned, list-counted, list-past, entries-turned, entries-more, entries-past, entries-none, entries-alike}
 use Rattle.list.proofs.scan_list.Statement.{statement}

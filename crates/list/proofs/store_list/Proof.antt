@@ -8,7 +8,7 @@ use borrow.Author.Needs.{needs}
 use borrow.Author.Tests.{ltb-true, ltb-false}
 use lib.Dec.{ltb}
 use lib.ListN.{length, set, replicate, length-set, length-replicate}
-use Rattle.refusal.specs.Answer.{Answer, done, refusedAt, passed, isDone, valueOr, itself}
+use Rattle.refusal.specs.Answer.{Answer, done, passed, isDone, valueOr, itself}
 use Rattle.refusal.specs.Laws.{turned-not, done-passed, undone}
 use Rattle.refusal.specs.declared.Refusal.{Refusal}
 use Rattle.number.specs.Number.{numberAt, told}

@@ -1,17 +1,13 @@
-use mathlib.Core.Path.{_≡_, refl, sym, _∙_, ap}
-use mathlib.Core.Logic.{⊎-elim}
-use mathlib.Core.Bool.{Bool, true, false}
-use Prim.Native.Nat.{ℕ, _≤_, _<_, _-_, _+_, _*_}
+use mathlib.Core.Path.{_≡_, sym, _∙_}
+use mathlib.Core.Bool.{false}
+use Prim.Native.Nat.{_≤_, _<_, _-_}
 use native.Mathlib.Omega.{arith}
 use borrow.Author.Needs.{needs}
-use borrow.Author.Tests.{lt-ltb, le-ltb, le-leb, lt-leb, eq-eqb, ne-eqb, not-true, not-false}
-use lib.ListN.{length, drop, getD, set, length-map, length-set}
+use lib.ListN.{length, drop}
 use Rattle.window.specs.Merging.{arrivals}
 use Rattle.merge.proofs.Scan.{counted, all-counted}
 use Rattle.merge.proofs.arrives.Statement.{statement}
 use Rattle.merge.proofs.arrives.Tie as tie
-use Rattle.merge.proofs.arrives.Reads as reads
-use Rattle.merge.proofs.arrives.Lts as lts
 
 abbrev Inv-loop : tie.InvT-loop
 Inv-loop seen odd₀ k₀ odd k = (k ≤ 6) × (arrivals (drop k seen) odd ≡ arrivals seen false)

@@ -1,19 +1,16 @@
-use mathlib.Core.Path.{_≡_, refl, sym, _∙_, ap}
+use mathlib.Core.Path.{_≡_, sym, _∙_}
 use mathlib.Core.Logic.{⊎-elim}
-use mathlib.Core.Bool.{Bool, true, false}
-use Prim.Native.Nat.{ℕ, _≤_, _<_, _-_, _+_, _*_}
+use mathlib.Core.Bool.{false}
+use Prim.Native.Nat.{_≤_, _<_, _-_}
 use native.Mathlib.Omega.{arith}
 use borrow.Author.Needs.{needs}
-use borrow.Author.Tests.{lt-ltb, le-ltb, le-leb, lt-leb, eq-eqb, ne-eqb, not-true, not-false}
-use lib.ListN.{length, drop, getD, set, length-map, length-set}
+use borrow.Author.Tests.{not-true, not-false}
+use lib.ListN.{length, drop}
 use Rattle.refusal.specs.Laws.{undone}
 use Rattle.window.specs.Merging.{scan, floods}
 use Rattle.merge.proofs.Scan.{shut, passed, stopped, lower, higher, ended}
 use Rattle.merge.proofs.flood.Statement.{statement}
 use Rattle.merge.proofs.flood.Tie as tie
-use Rattle.merge.proofs.flood.Reads as reads
-use Rattle.merge.proofs.flood.Lts as lts
-use Rattle.walk.proofs.number.Reads as number-reads
 
 abbrev Inv-scan : tie.InvT-scan
 Inv-scan g unrooted pointer seen m lowest₀ to₀ busy₀ reset₀ k₀ lowest to busy reset k =

@@ -1,18 +1,9 @@
-use mathlib.Core.Path.{_≡_, refl, sym, _∙_, ap}
-use mathlib.Core.Logic.{⊎-elim}
-use mathlib.Core.Bool.{Bool, true, false}
-use Prim.Native.Nat.{ℕ, _≤_, _<_, _-_, _+_, _*_}
-use native.Mathlib.Omega.{arith}
+use Prim.Native.Nat.{_-_}
 use borrow.Author.Needs.{needs}
-use borrow.Author.Tests.{lt-ltb, le-ltb, le-leb, lt-leb, eq-eqb, ne-eqb, not-true, not-false}
-use lib.ListN.{length, drop, getD, set, length-map, length-set}
+use borrow.Author.Tests.{not-true, not-false}
 use Rattle.window.specs.Merging.{sees}
 use Rattle.merge.proofs.look.Statement.{statement}
 use Rattle.merge.proofs.look.Tie as tie
-use Rattle.merge.proofs.look.Reads as reads
-use Rattle.merge.proofs.look.Lts as lts
-use Rattle.merge.proofs.nothing.Reads as nothing-reads
-use Rattle.merge.proofs.pushes.Reads as pushes-reads
 
 -- src/lib.rt:47:9
 nothing-requires : tie.Need-nothing-requires

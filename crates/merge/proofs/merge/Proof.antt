@@ -1,11 +1,8 @@
-use mathlib.Core.Path.{_≡_, refl, sym, _∙_, ap, subst}
-use mathlib.Core.Logic.{⊎-elim}
-use mathlib.Core.Bool.{Bool, true, false}
+use mathlib.Core.Path.{_≡_, sym, _∙_, ap}
 use Prim.Native.Nat.{ℕ, _≤_, _<_, _-_, _+_, _*_}
 use native.Mathlib.Omega.{arith}
 use borrow.Author.Needs.{needs}
-use borrow.Author.Tests.{lt-ltb, le-ltb, le-leb, lt-leb, eq-eqb, ne-eqb, not-true, not-false}
-use lib.ListN.{length, drop, getD, set, length-map, length-set}
+use lib.ListN.{length, length-map}
 use lib.ListN.{replicate}
 use Rattle.shape.specs.Steps.{base}
 use Rattle.window.specs.Lists.{over, any}
@@ -13,24 +10,12 @@ use Rattle.window.specs.LawsLists.{over-none, over-next, over-three, any-none, 
 use Rattle.window.specs.Window.{place, size}
 use Rattle.window.specs.declared.Seen.{Seen}
 use Rattle.window.specs.declared.Stepped.{Stepped}
-use Rattle.window.specs.declared.Way.{Way}
 use Rattle.walk.specs.Walk.{Stands}
-use Rattle.window.specs.Merging.{nothing, merged, stepAt, flippedSlot, seen as seenFrom}
+use Rattle.window.specs.Merging.{nothing, stepAt, flippedSlot, seen as seenFrom}
 use Rattle.walk.specs.LawsWalk.{first-place, stands-at, walks, stands-low, depth-low, ends-low, named-east, named-south, named-up}
 use Rattle.merge.proofs.Turn.{merged-by, seen-by, step-by, bit-by, seen-all}
 use Rattle.merge.proofs.merge.Statement.{statement}
 use Rattle.merge.proofs.merge.Tie as tie
-use Rattle.merge.proofs.merge.Reads as reads
-use Rattle.merge.proofs.merge.Lts as lts
-use Rattle.merge.proofs.flip.Reads as flip-reads
-use Rattle.merge.proofs.look.Reads as look-reads
-use Rattle.merge.proofs.node_step.Reads as node-step-reads
-use Rattle.merge.proofs.nothing.Reads as nothing-reads
-use Rattle.merge.proofs.stage_after.Reads as stage-after-reads
-use Rattle.shape.proofs.is_boundary.Reads as is-boundary-reads
-use Rattle.shape.proofs.nodes.Reads as nodes-reads
-use Rattle.walk.proofs.next_place.Reads as next-place-reads
-use Rattle.walk.proofs.reach.Reads as reach-reads
 
 abbrev Inv-look : tie.InvT-look
 Inv-look w shape n old nodes correction busy q g seen₀ k₀ seen k = (k ≤ 6) × (seen ≡ over k (seenFrom base w g) (replicate 6 nothing))

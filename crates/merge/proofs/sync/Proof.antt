@@ -1,16 +1,11 @@
-use mathlib.Core.Path.{_≡_, refl, sym, _∙_, ap}
-use mathlib.Core.Logic.{⊎-elim}
-use mathlib.Core.Bool.{Bool, true, false}
-use Prim.Native.Nat.{ℕ, _≤_, _<_, _-_, _+_, _*_}
+use mathlib.Core.Path.{_≡_}
+use Prim.Native.Nat.{_-_}
 use native.Mathlib.Omega.{arith}
 use borrow.Author.Needs.{needs}
-use borrow.Author.Tests.{lt-ltb, le-ltb, le-leb, lt-leb, eq-eqb, ne-eqb, not-true, not-false}
-use lib.ListN.{length, drop, getD, set, length-map, length-set}
+use lib.ListN.{length}
 use Rattle.merge.proofs.Scan.{synced-centre, synced-past, synced-at}
 use Rattle.merge.proofs.sync.Statement.{statement}
 use Rattle.merge.proofs.sync.Tie as tie
-use Rattle.merge.proofs.sync.Reads as reads
-use Rattle.merge.proofs.sync.Lts as lts
 
 -- src/lib.rt:64:9
 returns : tie.Need-returns

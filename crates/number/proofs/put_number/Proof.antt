@@ -1,13 +1,13 @@
 -- `number::put_number` meets its contract: the groups so far stand in the buffer, and those of what is left are still to come.
 -- Assumes nothing.
-use mathlib.Core.Path.{_≡_, refl, sym, _∙_, ap, subst}
-use mathlib.Core.List.{List, [], _∷_, _++_}
+use mathlib.Core.Path.{_≡_, refl, sym, _∙_, ap}
+use mathlib.Core.List.{List, [], _∷_}
 use Prim.Native.Nat.{ℕ, _≤_, _<_, _+_, _/_, _%_, _-_}
 use native.Mathlib.Omega.{arith}
 use borrow.Author.Needs.{needs}
 use lib.ListN.{length, drop, set, length-drop, length-set}
-use Rattle.refusal.specs.Writing.{front, Put, putTo}
-use Rattle.refusal.specs.Filling.{filled, filled-none, filled-more, filled-all, drop-more, length-filled, front-fits, front-full}
+use Rattle.refusal.specs.Writing.{front, putTo}
+use Rattle.refusal.specs.Filling.{filled, filled-more, filled-all, drop-more, length-filled, front-fits, front-full}
 use Rattle.number.specs.Number.{written}
 use Rattle.number.specs.Laws.{written-one, written-more, length-written}
 use Rattle.number.proofs.put_number.Statement.{statement}

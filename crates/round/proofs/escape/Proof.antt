@@ -8,7 +8,6 @@ use mathlib.Core.List.{List}
 use Rattle.shape.specs.Sizes.{sheetsOf, detectorsOf}
 use Rattle.shape.specs.Ranges.{ranged}
 use Rattle.shape.specs.Nodes.{indexOf}
-use Rattle.shape.specs.Steps.{base}
 use Rattle.window.specs.Lists.{over, bit}
 use Rattle.window.specs.LawsLists.{over-none, over-next, over-all, length-over}
 use Rattle.window.specs.Window.{at}

@@ -1,5 +1,5 @@
 -- `stream::read_header` meets its contract. Assumes nothing.
-use mathlib.Core.Path.{_≡_, sym, _∙_, ap}
+use mathlib.Core.Path.{sym, _∙_, ap}
 use Rattle.number.specs.Number.{told}
 use Rattle.stream.specs.Laws.{header-none, header-next}
 use borrow.Author.Needs.{needs}

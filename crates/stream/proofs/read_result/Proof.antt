@@ -1,22 +1,19 @@
 -- `stream::read_result` meets its contract: its tests, the end, then both lists and the steps. Assumes nothing.
 use mathlib.Core.Path.{_≡_, refl, sym, _∙_, ap}
 use mathlib.Core.Bool.{Bool, true, false}
-use mathlib.Core.List.{List, [], _∷_, _++_}
+use mathlib.Core.List.{List, [], _∷_}
 use Prim.Native.Nat.{ℕ, _≤_, _<_}
 use borrow.Author.Tests.{eq-eqb, ne-eqb}
 use lib.ListN.{length}
-use Rattle.refusal.specs.Answer.{Answer, done, ended, turned, unless, isDone, valueOr}
+use Rattle.refusal.specs.Answer.{Answer, done, ended, turned, isDone, valueOr}
 use Rattle.refusal.specs.Tests.{Passes, Turned, pass-none, pass-one, pass-append, turn-here, turn-later, turned-first, turned-after}
-use Rattle.refusal.specs.declared.Refusal.{Refusal}
 use Rattle.refusal.specs.Laws.{turned-not}
 use Rattle.refusal.specs.declared.Refusal.the-variants.{Edges, Escapes}
 use Rattle.shape.specs.Sizes.{detectorsOf, layerEdgesOf}
 use Rattle.shape.specs.declared.Shape.{Shape}
 use Rattle.stream.specs.Records.{Result, resultFrom, resultAt, edgesOf, escapesOf}
-use Rattle.stream.specs.Calls.{placeTests, edgesTest, escapesTest, Committed, committed, intoBoth, stepsOf, readResult, toldResult}
+use Rattle.stream.specs.Calls.{placeTests, edgesTest, escapesTest, committed, intoBoth, stepsOf, readResult, toldResult}
 use Rattle.stream.specs.Laws.{at-end, before-end, result-turned, both-not, done-steps}
-use Rattle.stream.specs.declared.ResultRead.{ResultRead}
-use Rattle.stream.specs.declared.ResultRead.the-variants.{Steps, End, Refused}
 use Rattle.stream.proofs.Places.{place-turned, place-passes}
 use borrow.Author.Needs.{needs}
 use Rattle.stream.proofs.read_result.Statement.{statement}

@@ -1,18 +1,16 @@
 -- `stream::read_round` meets its contract: its tests, the end, then the list. Assumes nothing.
-use mathlib.Core.Path.{_≡_, refl, sym, _∙_, ap}
-use mathlib.Core.Bool.{Bool, true, false}
-use mathlib.Core.List.{List, [], _∷_, _++_}
+use mathlib.Core.Path.{_≡_, sym, _∙_, ap}
+use mathlib.Core.Bool.{Bool}
+use mathlib.Core.List.{List, [], _∷_}
 use Prim.Native.Nat.{ℕ, _≤_, _<_}
 use borrow.Author.Tests.{eq-eqb, ne-eqb}
 use lib.ListN.{length}
-use Rattle.refusal.specs.Writing.{Left, left}
-use Rattle.refusal.specs.Answer.{Answer, done, ended, turned, unless}
-use Rattle.refusal.specs.Tests.{Passes, Turned, pass-none, pass-one, pass-append, turn-here, turn-later, turned-first, turned-after}
-use Rattle.refusal.specs.declared.Refusal.{Refusal}
+use Rattle.refusal.specs.Writing.{left}
+use Rattle.refusal.specs.Answer.{Answer, ended}
+use Rattle.refusal.specs.Tests.{Passes, Turned, pass-none, pass-one, pass-append, turn-here, turned-first, turned-after}
 use Rattle.refusal.specs.declared.Refusal.the-variants.{Detectors}
-use Rattle.list.specs.Sheet.{listAt, told, toldRead, into, readList}
+use Rattle.list.specs.Sheet.{listAt, toldRead, into, readList}
 use Rattle.list.specs.declared.Listed.{Listed}
-use Rattle.list.specs.declared.Listed.the-variants.{To, Refused}
 use Rattle.shape.specs.Sizes.{detectorsOf}
 use Rattle.shape.specs.declared.Shape.{Shape}
 use Rattle.stream.specs.Records.{roundAt}

@@ -1,17 +1,7 @@
-use mathlib.Core.Path.{_≡_, refl, sym, _∙_, ap}
-use mathlib.Core.Logic.{⊎-elim}
-use mathlib.Core.Bool.{Bool, true, false}
-use Prim.Native.Nat.{ℕ, _≤_, _<_, _-_, _+_, _*_}
-use native.Mathlib.Omega.{arith}
+use Prim.Native.Nat.{_-_}
 use borrow.Author.Needs.{needs}
-use borrow.Author.Tests.{lt-ltb, le-ltb, le-leb, lt-leb, eq-eqb, ne-eqb, not-true, not-false}
-use lib.ListN.{length, drop, getD, set, length-map, length-set}
 use Rattle.stream_c.proofs.baizeridge_nodes.Statement.{statement}
 use Rattle.stream_c.proofs.baizeridge_nodes.Tie as tie
-use Rattle.stream_c.proofs.baizeridge_nodes.Reads as reads
-use Rattle.stream_c.proofs.baizeridge_nodes.Lts as lts
-use Rattle.shape.proofs.nodes.Reads as nodes-reads
-use Rattle.shape.proofs.shape_of.Reads as shape-of-reads
 use Rattle.stream_c.specs.Seen.{nodesBy}
 use Rattle.stream_c.specs.Laws.{sized, unsized}
 

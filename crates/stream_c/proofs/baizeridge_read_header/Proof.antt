@@ -1,5 +1,5 @@
 -- `stream_c::baizeridge_read_header` meets its contract. Assumes nothing.
-use mathlib.Core.Path.{_≡_, refl, sym, _∙_, ap}
+use mathlib.Core.Path.{sym, _∙_, ap}
 use Rattle.stream.specs.Records.{headerAt}
 use Rattle.stream.specs.Calls.{toldHeader}
 use Rattle.stream_c.specs.Seen.{heightOf, distanceOf}

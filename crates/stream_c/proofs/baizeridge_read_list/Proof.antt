@@ -1,8 +1,7 @@
 -- `stream_c::baizeridge_read_list` meets its contract. Assumes nothing.
-use mathlib.Core.Path.{_≡_, refl, sym, _∙_, ap}
+use mathlib.Core.Path.{sym, _∙_, ap}
 use Rattle.refusal.specs.Writing.{Left}
-use Rattle.list.specs.Sheet.{told, toldRead, readList}
-use Rattle.list.specs.declared.Listed.{Listed}
+use Rattle.list.specs.Sheet.{told, readList}
 use Rattle.stream_c.specs.Laws.{seen-done, seen-turned}
 use borrow.Author.Needs.{needs}
 use Rattle.stream_c.proofs.baizeridge_read_list.Statement.{statement}

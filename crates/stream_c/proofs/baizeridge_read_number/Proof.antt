@@ -1,5 +1,5 @@
 -- `stream_c::baizeridge_read_number` meets its contract. Assumes nothing.
-use mathlib.Core.Path.{_≡_, refl, sym, _∙_, ap}
+use mathlib.Core.Path.{sym, _∙_, ap}
 use Rattle.number.specs.Number.{told, numberAt}
 use Rattle.refusal.specs.Answer.{itself}
 use Rattle.stream_c.specs.Laws.{seen-done, seen-turned, value-done, value-turned}

@@ -1,6 +1,6 @@
 -- `stream_c::baizeridge_read_round` meets its contract. Assumes nothing.
-use mathlib.Core.Path.{_≡_, refl, sym, _∙_, ap}
-use mathlib.Core.List.{List, [], _∷_, _++_}
+use mathlib.Core.Path.{sym, _∙_, ap}
+use mathlib.Core.List.{[], _∷_}
 use lib.ListN.{length}
 use Rattle.refusal.specs.Writing.{Left}
 use Rattle.refusal.specs.Tests.{turned-first}

@@ -1,6 +1,5 @@
 -- `stream_c::baizeridge_write_number` meets its contract. Assumes nothing.
-use mathlib.Core.Path.{_≡_, refl, sym, _∙_, ap}
-use Rattle.refusal.specs.Answer.{Answer}
+use mathlib.Core.Path.{_∙_, ap}
 use Rattle.refusal.specs.Writing.{Left}
 use Rattle.stream_c.specs.Seen.{shown}
 use borrow.Author.Needs.{needs}

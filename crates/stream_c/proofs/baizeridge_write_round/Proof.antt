@@ -1,14 +1,14 @@
 -- `stream_c::baizeridge_write_round` meets its contract. Assumes nothing.
-use mathlib.Core.Path.{_≡_, refl, sym, _∙_, ap}
-use mathlib.Core.List.{List, [], _∷_, _++_}
+use mathlib.Core.Path.{sym, _∙_, ap}
+use mathlib.Core.List.{[], _∷_, _++_}
 use lib.ListN.{length}
 use Rattle.refusal.specs.Tests.{turned-first}
 use Rattle.refusal.specs.Writing.{Left}
 use Rattle.refusal.specs.Filling.{writing-turned}
 use Rattle.list.specs.Sheet.{listed, areBits}
 use Rattle.shape.specs.declared.Shape.{Shape}
-use Rattle.stream.specs.Records.{header, result}
-use Rattle.stream.specs.Calls.{placeTests, defectsTest, edgesTest, escapesTest, writeHeader, writeRound, writeResult, asResult}
+use Rattle.stream.specs.Records.{result}
+use Rattle.stream.specs.Calls.{placeTests, defectsTest, writeRound}
 use Rattle.stream_c.specs.Seen.{shown, shapeBy}
 use Rattle.stream_c.specs.Laws.{seen-turned, shape-turned, shape-named}
 use borrow.Author.Needs.{needs}

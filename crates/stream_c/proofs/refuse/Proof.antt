@@ -1,8 +1,8 @@
 -- `stream_c::refuse` meets its contract. Assumes nothing.
-use mathlib.Core.Path.{_≡_, refl, sym, _∙_, ap}
+use mathlib.Core.Path.{_∙_, ap}
 use Prim.Native.Nat.{ℕ}
 use Rattle.refusal.specs.Answer.{status, turned}
-use Rattle.stream_c.specs.Seen.{Seen, seen}
+use Rattle.stream_c.specs.Seen.{seen}
 use borrow.Author.Needs.{needs}
 use Rattle.stream_c.proofs.refuse.Statement.{statement}
 use Rattle.stream_c.proofs.refuse.Tie as tie

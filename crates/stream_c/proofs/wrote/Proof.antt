@@ -1,5 +1,5 @@
 -- `stream_c::wrote` meets its contract. Assumes nothing.
-use mathlib.Core.Path.{_≡_, refl, sym, _∙_, ap}
+use mathlib.Core.Path.{_∙_, ap}
 use Rattle.number.specs.Number.{toldTo}
 use Rattle.stream_c.specs.Laws.{seen-done, seen-turned}
 use borrow.Author.Needs.{needs}

@@ -1,20 +1,9 @@
-use mathlib.Core.Path.{_≡_, refl, sym, _∙_, ap}
-use mathlib.Core.Logic.{⊎-elim}
-use mathlib.Core.Bool.{Bool, true, false}
-use Prim.Native.Nat.{ℕ, _≤_, _<_, _-_, _+_, _*_}
+use mathlib.Core.Path.{_∙_}
+use Prim.Native.Nat.{_-_}
 use native.Mathlib.Omega.{arith}
 use borrow.Author.Needs.{needs}
-use borrow.Author.Tests.{lt-ltb, le-ltb, le-leb, lt-leb, eq-eqb, ne-eqb, not-true, not-false}
-use lib.ListN.{length, drop, getD, set, length-map, length-set}
 use Rattle.walk.proofs.down.Statement.{statement}
 use Rattle.walk.proofs.down.Tie as tie
-use Rattle.walk.proofs.down.Reads as reads
-use Rattle.walk.proofs.down.Lts as lts
-use Rattle.shape.proofs.sheets.Reads as sheets-reads
-use Rattle.walk.proofs.inner.Reads as inner-reads
-use Rattle.walk.proofs.no_edge.Reads as no-edge-reads
-use Rattle.walk.proofs.over.Reads as over-reads
-use Rattle.walk.specs.LawsWalk.{stands-low}
 use Rattle.walk.specs.Ways.{down-none, down-low, down-way, no-test-to, a-test-to}
 
 -- src/lib.rt:124:10

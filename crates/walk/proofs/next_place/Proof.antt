@@ -1,15 +1,7 @@
-use mathlib.Core.Path.{_≡_, refl, sym, _∙_, ap}
-use mathlib.Core.Logic.{⊎-elim}
-use mathlib.Core.Bool.{Bool, true, false}
-use Prim.Native.Nat.{ℕ, _≤_, _<_, _-_, _+_, _*_}
-use native.Mathlib.Omega.{arith}
+use Prim.Native.Nat.{_-_}
 use borrow.Author.Needs.{needs}
-use borrow.Author.Tests.{lt-ltb, le-ltb, le-leb, lt-leb, eq-eqb, ne-eqb, not-true, not-false}
-use lib.ListN.{length, drop, getD, set, length-map, length-set}
 use Rattle.walk.proofs.next_place.Statement.{statement}
 use Rattle.walk.proofs.next_place.Tie as tie
-use Rattle.walk.proofs.next_place.Reads as reads
-use Rattle.walk.proofs.next_place.Lts as lts
 use Rattle.walk.specs.LawsWalk.{after-column, after-row, after-sheet}
 
 -- src/lib.rt:24:21

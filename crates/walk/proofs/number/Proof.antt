@@ -1,16 +1,8 @@
-use mathlib.Core.Path.{_≡_, refl, sym, _∙_, ap}
-use mathlib.Core.Logic.{⊎-elim}
-use mathlib.Core.Bool.{Bool, true, false}
-use Prim.Native.Nat.{ℕ, _≤_, _<_, _-_, _+_, _*_}
+use Prim.Native.Nat.{_-_}
 use native.Mathlib.Omega.{arith}
 use borrow.Author.Needs.{needs}
-use borrow.Author.Tests.{lt-ltb, le-ltb, le-leb, lt-leb, eq-eqb, ne-eqb, not-true, not-false}
-use lib.ListN.{length, drop, getD, set, length-map, length-set}
 use Rattle.walk.proofs.number.Statement.{statement}
 use Rattle.walk.proofs.number.Tie as tie
-use Rattle.walk.proofs.number.Reads as reads
-use Rattle.walk.proofs.number.Lts as lts
-use Rattle.shape.proofs.number_of.Reads as number-of-reads
 use Rattle.walk.specs.LawsWalk.{number-low}
 
 -- src/lib.rt:46:5

@@ -1,22 +1,8 @@
-use mathlib.Core.Path.{_≡_, refl, sym, _∙_, ap}
-use mathlib.Core.Logic.{⊎-elim}
-use mathlib.Core.Bool.{Bool, true, false}
-use Prim.Native.Nat.{ℕ, _≤_, _<_, _-_, _+_, _*_}
-use native.Mathlib.Omega.{arith}
+use mathlib.Core.Path.{sym, _∙_, ap}
+use Prim.Native.Nat.{ℕ, _-_}
 use borrow.Author.Needs.{needs}
-use borrow.Author.Tests.{lt-ltb, le-ltb, le-leb, lt-leb, eq-eqb, ne-eqb, not-true, not-false}
-use lib.ListN.{length, drop, getD, set, length-map, length-set}
 use Rattle.walk.proofs.reach.Statement.{statement}
 use Rattle.walk.proofs.reach.Tie as tie
-use Rattle.walk.proofs.reach.Reads as reads
-use Rattle.walk.proofs.reach.Lts as lts
-use Rattle.walk.proofs.down.Reads as down-reads
-use Rattle.walk.proofs.east.Reads as east-reads
-use Rattle.walk.proofs.no_edge.Reads as no-edge-reads
-use Rattle.walk.proofs.north.Reads as north-reads
-use Rattle.walk.proofs.south.Reads as south-reads
-use Rattle.walk.proofs.up.Reads as up-reads
-use Rattle.walk.proofs.west.Reads as west-reads
 use Rattle.shape.specs.Sizes.{sheetsOf}
 use Rattle.shape.specs.Steps.{base}
 use Rattle.window.specs.Window.{reach}
