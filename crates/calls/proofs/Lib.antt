@@ -1,1 +1,3 @@
 pub mod Leaves
+pub mod Rounds
+pub mod Opened

@@ -13,7 +13,7 @@ ghost use Rattle.refusal.specs.Answer.{done, unless, itself};
 ghost use Rattle.shape.specs.Sizes.{inRange};
 ghost use Rattle.shape.specs.Steps.{base};
 ghost use Rattle.window.specs.Fresh.{freshWindow, noWindow};
-ghost use Rattle.window.specs.Calls.{told, given, leaves, roundTests, freshCall, growCall};
+ghost use Rattle.window.specs.Calls.{told, given, leaves, stateTests, roundTests, freshCall, growCall};
 ghost use Rattle.calls.specs.Answers.{received, roundLeaves, toldMerged, mergingLeaves};
 
 // How a merging step ended: some node was busy, or none was and the stage is rest.
@@ -89,16 +89,27 @@ pub fn fresh(height: u32, distance: u32) -> Given
     }
 }
 
-// The tests of a round, 21 to 4, in the document's order.
-fn test_round(w: Window, bytes: &[u8], edges: usize, escapes: usize) -> Called
-    ensures { λ r. ⌜ told r ≡ unless (roundTests base w (now (bytes .entry)) edges escapes) (done tt 0) ⌝ }
+// The tests of the state: 21, then 22.
+fn test_state(w: Window, staged: bool) -> Called
+    ensures { λ r. ⌜ told r ≡ unless (stateTests base w staged) (done tt 0) ⌝ }
 {
     if !formed::well_formed(w) {
         return Called::Refused(Refusal::NotWellFormed);
     }
-    let stage = w.stage;
-    if !window::is_rest(stage) {
+    if !staged {
         return Called::Refused(Refusal::WrongStage);
+    }
+    Called::Done
+}
+
+// The tests of a round, 21 to 4, in the document's order.
+fn test_round(w: Window, bytes: &[u8], edges: usize, escapes: usize) -> Called
+    ensures { λ r. ⌜ told r ≡ unless (roundTests base w (now (bytes .entry)) edges escapes) (done tt 0) ⌝ }
+{
+    let stage = w.stage;
+    let tested = test_state(w, window::is_rest(stage));
+    if let Called::Refused(f) = tested {
+        return Called::Refused(f);
     }
     if w.next == 4294967295 {
         return Called::Refused(Refusal::LastRound);
@@ -142,16 +153,11 @@ pub fn round(w: Window, bytes: &[u8], edges: &mut [u8], escapes: &mut [u8]) -> G
 pub fn grow(w: Window) -> Given
     ensures { λ r. ⌜ given (told (r .answer)) (r .window) ≡ leaves (growCall base w) itself w ⌝ }
 {
-    if !formed::well_formed(w) {
-        return Given {
-            answer: Called::Refused(Refusal::NotWellFormed),
-            window: w,
-        };
-    }
     let stage = w.stage;
-    if !window::is_to_grow(stage) {
+    let tested = test_state(w, window::is_to_grow(stage));
+    if let Called::Refused(f) = tested {
         return Given {
-            answer: Called::Refused(Refusal::WrongStage),
+            answer: Called::Refused(f),
             window: w,
         };
     }
@@ -165,16 +171,11 @@ pub fn grow(w: Window) -> Given
 pub fn merging(w: Window) -> Stepped
     ensures { λ r. ⌜ given (toldMerged (r .answer)) (r .window) ≡ mergingLeaves base w ⌝ }
 {
-    if !formed::well_formed(w) {
-        return Stepped {
-            answer: Merged::Refused(Refusal::NotWellFormed),
-            window: w,
-        };
-    }
     let stage = w.stage;
-    if !window::is_merging(stage) {
+    let tested = test_state(w, window::is_merging(stage));
+    if let Called::Refused(f) = tested {
         return Stepped {
-            answer: Merged::Refused(Refusal::WrongStage),
+            answer: Merged::Refused(f),
             window: w,
         };
     }

@@ -15,7 +15,7 @@ ghost use Rattle.shape.specs.Choice.{if};
 ghost use Rattle.shape.specs.Nodes.{numberOf};
 ghost use Rattle.shape.specs.Steps.{base};
 ghost use Rattle.walk.specs.Walk.{Stands};
-ghost use Rattle.window.specs.Merging.{sees, pushes as pushesAlong, syncedActive, arrivals, flipped, floods, stepped, merged, nothing as nothingSeen};
+ghost use Rattle.window.specs.Merging.{sees, pushes as pushesAlong, syncedActive, arrivals, flipped, scan as scanned, floods, stepped, merged, nothing as nothingSeen};
 ghost use Rattle.window.specs.declared.Stage.the-variants as stage;
 
 const BACK: [u8; 6] = [4, 3, 2, 1, 6, 5];
@@ -84,7 +84,54 @@ fn arrives(seen: [Seen; 6]) -> bool
     odd
 }
 
-// A node's mark and pointer by its neighbours', in the scan order.
+// The neighbours in the scan order, for a node with mark m: the lowest mark is taken, and a node that is not unrooted stops at one marked reset.
+fn scan(unrooted: bool, pointer: u8, m: u16, seen: [Seen; 6]) -> Flooded
+    ensures { λ r. ⌜ r ≡ scanned seen 0 unrooted pointer false m ⌝ }
+{
+    let mut lowest = m;
+    let mut to = pointer;
+    let mut busy = false;
+    let mut reset = false;
+    let mut k: u8 = 0;
+    'scan: while k < 6 {
+        let s = seen[k as usize];
+        if s.grown {
+            let there = s.mark;
+            match there {
+                Mark::Reset => {
+                    if !unrooted {
+                        reset = true;
+                        break 'scan;
+                    }
+                }
+                Mark::Root(v) => {
+                    if v < lowest {
+                        lowest = v;
+                        to = k + 1;
+                        busy = true;
+                    }
+                }
+            }
+        }
+        k += 1;
+    }
+    if reset {
+        return Flooded {
+            unrooted,
+            pointer: 0,
+            mark: Mark::Reset,
+            busy: true,
+        };
+    }
+    Flooded {
+        unrooted,
+        pointer: to,
+        mark: Mark::Root(lowest),
+        busy,
+    }
+}
+
+// A node marked reset takes its own number; any other looks at its neighbours.
 fn flood(
     shape: Shape,
     place: Place,
@@ -98,58 +145,13 @@ fn flood(
     ensures { λ r. ⌜ r ≡ floods (numberOf (shape .height) (shape .distance) place) unrooted pointer mark seen ⌝ }
 {
     match mark {
-        Mark::Reset => {
-            let own = walk::number(shape, place, g);
-            Flooded {
-                unrooted: true,
-                pointer,
-                mark: Mark::Root(own),
-                busy: true,
-            }
-        }
-        Mark::Root(m) => {
-            let mut lowest = m;
-            let mut to = pointer;
-            let mut busy = false;
-            let mut reset = false;
-            let mut k: u8 = 0;
-            'scan: while k < 6 {
-                let s = seen[k as usize];
-                if s.grown {
-                    let there = s.mark;
-                    match there {
-                        Mark::Reset => {
-                            if !unrooted {
-                                reset = true;
-                                break 'scan;
-                            }
-                        }
-                        Mark::Root(v) => {
-                            if v < lowest {
-                                lowest = v;
-                                to = k + 1;
-                                busy = true;
-                            }
-                        }
-                    }
-                }
-                k += 1;
-            }
-            if reset {
-                return Flooded {
-                    unrooted,
-                    pointer: 0,
-                    mark: Mark::Reset,
-                    busy: true,
-                };
-            }
-            Flooded {
-                unrooted,
-                pointer: to,
-                mark: Mark::Root(lowest),
-                busy,
-            }
-        }
+        Mark::Reset => Flooded {
+            unrooted: true,
+            pointer,
+            mark: Mark::Root(walk::number(shape, place, g)),
+            busy: true,
+        },
+        Mark::Root(m) => scan(unrooted, pointer, m, seen),
     }
 }
 

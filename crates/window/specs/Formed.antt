@@ -1,9 +1,8 @@
 -- WELL-FORMED WINDOWS, as a test. Assumes nothing.
 use Prim.Native.Nat.{ℕ, _+_, _*_}
-use mathlib.Core.Bool.{Bool, _&&_, _||_, not}
+use mathlib.Core.Bool.{Bool, _&&_, _||_, not, false}
 use lib.Dec.{ltb, leb, eqb}
 use lib.ListN.{getD, drop}
-use mathlib.Core.Bool.{false}
 use Rattle.shape.specs.Sizes.{sheetsOf, boundary, inRange, nodesIn}
 use Rattle.shape.specs.Steps.{Table}
 use Rattle.shape.specs.declared.Place.{Place}

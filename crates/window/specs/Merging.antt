@@ -1,4 +1,4 @@
--- MERGING, one step: what a node sees, what it becomes of it, and the window after the step. Assumes nothing.
+-- MERGING, one step: what a node sees, what becomes of it, and the window after the step. Assumes nothing.
 use Prim.Native.Nat.{ℕ, _+_, _-_, _*_, _/_, _%_}
 use mathlib.Core.Bool.{Bool, true, false, _&&_, _||_, not}
 use mathlib.Core.List.{List, [], _∷_}

@@ -6,7 +6,7 @@ use Rattle.calls.proofs.fresh.Tie as tie
 use Rattle.refusal.specs.Answer.{turned}
 use Rattle.window.specs.Calls.{given}
 use Rattle.window.specs.declared.Window.{Window}
-use Rattle.calls.proofs.Leaves.{shape-ranged, fresh-refused, fresh-done}
+use Rattle.calls.proofs.Opened.{shape-ranged, fresh-refused, fresh-done}
 
 -- src/lib.rt:80:9
 shape-of-requires : tie.Need-shape-of-requires

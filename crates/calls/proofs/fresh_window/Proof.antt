@@ -14,7 +14,7 @@ use Rattle.window.specs.Lists.{over}
 use Rattle.window.specs.LawsLists.{over-none, over-next}
 use Rattle.window.specs.Window.{unused}
 use Rattle.window.specs.declared.Node.{Node}
-use Rattle.calls.proofs.Leaves.{numbering, numbered-by, fresh-by}
+use Rattle.calls.proofs.Opened.{numbering, numbered-by, fresh-by}
 
 abbrev Inv-loop : tie.InvT-loop
 Inv-loop shape n nodes₀ place₀ g₀ nodes place g =

@@ -3,7 +3,7 @@ use borrow.Author.Needs.{needs}
 use lib.ListN.{length}
 use Rattle.calls.proofs.round.Statement.{statement}
 use Rattle.calls.proofs.round.Tie as tie
-use Rattle.calls.proofs.Leaves.{round-refused, round-fine, round-done, formed-ranged}
+use Rattle.calls.proofs.Rounds.{round-refused, round-fine, round-done, formed-ranged}
 
 -- src/lib.rt:155:9
 test-round-requires : tie.Need-test-round-requires

@@ -5,7 +5,7 @@ use native.Mathlib.Omega.{arith}
 use borrow.Author.Needs.{needs}
 use lib.ListN.{length, drop}
 use Rattle.window.specs.Merging.{arrivals}
-use Rattle.merge.proofs.Scan.{counted, all-counted}
+use Rattle.merge.proofs.Directions.{counted, all-counted}
 use Rattle.merge.proofs.arrives.Statement.{statement}
 use Rattle.merge.proofs.arrives.Tie as tie
 

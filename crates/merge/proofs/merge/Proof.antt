@@ -2,8 +2,7 @@ use mathlib.Core.Path.{_≡_, sym, _∙_, ap}
 use Prim.Native.Nat.{ℕ, _≤_, _<_, _-_, _+_, _*_}
 use native.Mathlib.Omega.{arith}
 use borrow.Author.Needs.{needs}
-use lib.ListN.{length, length-map}
-use lib.ListN.{replicate}
+use lib.ListN.{length, length-map, replicate}
 use Rattle.shape.specs.Steps.{base}
 use Rattle.window.specs.Lists.{over, any}
 use Rattle.window.specs.LawsLists.{over-none, over-next, over-three, any-none, any-next}

@@ -3,7 +3,7 @@ use Prim.Native.Nat.{_-_}
 use native.Mathlib.Omega.{arith}
 use borrow.Author.Needs.{needs}
 use lib.ListN.{length}
-use Rattle.merge.proofs.Scan.{synced-centre, synced-past, synced-at}
+use Rattle.merge.proofs.Directions.{synced-centre, synced-past, synced-at}
 use Rattle.merge.proofs.sync.Statement.{statement}
 use Rattle.merge.proofs.sync.Tie as tie
 

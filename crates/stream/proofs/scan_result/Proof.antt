@@ -6,8 +6,7 @@ use Rattle.refusal.specs.Answer.{Answer, done, turned, passed}
 use Rattle.refusal.specs.Laws.{turned-as, done-on}
 use Rattle.refusal.specs.declared.Refusal.{Refusal}
 use Rattle.number.specs.Number.{told, numberAt}
-use Rattle.list.specs.Sheet.{listAt}
-use Rattle.list.specs.Sheet.{told as toldList}
+use Rattle.list.specs.Sheet.{listAt, told as toldList}
 use Rattle.stream.specs.Records.{Result, resultFrom}
 use Rattle.stream.specs.Calls.{stepsOf}
 use Rattle.stream.specs.Laws.{edges-turned, escapes-turned, steps-turned, result-done}
