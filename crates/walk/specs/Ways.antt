@@ -1,5 +1,5 @@
 -- The six ways from a node, by where its place stands: which are there, and where they lead. Assumes nothing.
-use Prim.Native.Nat.{ℕ, zero, suc, _+_, _-_, _*_, _≤_, _<_}
+use Prim.Native.Nat.{ℕ, _+_, _-_, _*_, _≤_, _<_}
 use native.Mathlib.Nat.{add-mul, one-mul}
 use native.Mathlib.Omega.{arith}
 use mathlib.Core.Path.{_≡_, refl, sym, _∙_, ap, subst}
@@ -12,6 +12,7 @@ use Rattle.shape.specs.Sizes.{sheetsOf, boundary}
 use Rattle.shape.specs.Ranges.{halves, both}
 use Rattle.shape.specs.Nodes.{indexOf}
 use Rattle.shape.specs.Steps.{base, step, goes, fits, stays, alongRow, across, insideOf, bothDetectors, joined, slot, north, west, east, south, down, up}
+use Rattle.shape.specs.Proper.{no-pointer}
 use Rattle.shape.specs.Joins.{Joins, joined-by, near-at, near-none}
 use Rattle.shape.specs.LawsIndex.{index-lt, window-le}
 use Rattle.shape.specs.declared.Place.{Place}
@@ -393,12 +394,4 @@ a-test-to b i n m k e z f = a-test b i (ltb n k) e (subst (λ (x : ℕ). not (i 
 
 -- a pointer that is none of the six
 pub stays-put : (p : ℕ) → (p ≡ 1 → ⊥) → (p ≡ 2 → ⊥) → (p ≡ 3 → ⊥) → (p ≡ 4 → ⊥) → (p ≡ 5 → ⊥) → (p ≡ 6 → ⊥) → stays (step base p) ≡ true
-unfolding base
-stays-put zero a b c e f g = refl
-stays-put (suc zero) a b c e f g = absurd (a refl)
-stays-put (suc (suc zero)) a b c e f g = absurd (b refl)
-stays-put (suc (suc (suc zero))) a b c e f g = absurd (c refl)
-stays-put (suc (suc (suc (suc zero)))) a b c e f g = absurd (e refl)
-stays-put (suc (suc (suc (suc (suc zero))))) a b c e f g = absurd (f refl)
-stays-put (suc (suc (suc (suc (suc (suc zero)))))) a b c e f g = absurd (g refl)
-stays-put (suc (suc (suc (suc (suc (suc (suc p))))))) a b c e f g = refl
+stays-put p a b c e f g = ap (λ (st : Step). stays st) (sym (no-pointer p a b c e f g))
