@@ -2,7 +2,7 @@
 # Runs every test: proofs, must-fail edits and programs by `rt ci`, then the proved archive against the
 # second implementation in rust/. The last line is the sum, 'N passed, M failed'.
 set -u
-archive=stream_c
+archive=exports
 passed=0 failed=0
 
 close() {

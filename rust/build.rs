@@ -2,7 +2,7 @@
 
 use std::path::Path;
 
-const ARCHIVE: &str = "stream_c";
+const ARCHIVE: &str = "exports";
 
 fn main() {
     let package = std::env::var("CARGO_MANIFEST_DIR").expect("cargo names the package's folder");

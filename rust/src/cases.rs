@@ -11,6 +11,8 @@ pub const HEADERS: usize = 42_000;
 pub const ROUNDS: usize = 42_000;
 pub const RESULTS: usize = 21_000;
 pub const STREAMS: usize = 21_000;
+/// Whole decodings.
+pub const DECODINGS: usize = 21_000;
 
 const _: () = assert!(NUMBERS + LISTS + HEADERS + ROUNDS + RESULTS + STREAMS >= 100_000);
 

@@ -1,6 +1,7 @@
 //! Every call made twice, on the second implementation and on the archive, with buffers filled alike.
 //! The answers must be equal, and so must every byte of the buffers and of the guards around them.
 
+use crate::decoding::Decoded;
 use crate::streams::Answer;
 use crate::{proved, streams};
 use std::fmt::Debug;
@@ -25,12 +26,12 @@ impl Lent {
 }
 
 /// The answer and the buffers, if both sides agree.
-fn both<T: PartialEq + Debug, const N: usize>(
+fn both<A: PartialEq + Debug, const N: usize>(
     rooms: [usize; N],
     call: impl Fn() -> String,
-    expected: impl FnOnce([&mut [u8]; N]) -> Answer<T>,
-    proved: impl FnOnce([&mut [u8]; N]) -> Answer<T>,
-) -> (Answer<T>, [Vec<u8>; N]) {
+    expected: impl FnOnce([&mut [u8]; N]) -> A,
+    proved: impl FnOnce([&mut [u8]; N]) -> A,
+) -> (A, [Vec<u8>; N]) {
     let mut ours = rooms.map(Lent::new);
     let mut theirs = rooms.map(Lent::new);
     let answer = expected(ours.each_mut().map(Lent::room));
@@ -136,4 +137,15 @@ pub fn write_result(h: u32, d: u32, lists: [&[u8]; 2], steps: u32, room: usize, 
         |[out]| proved::write_result(h, d, edges, escapes, steps, out, at),
     );
     (answer, out)
+}
+
+/// A whole stream into a buffer of `room` bytes, against what the second decoder made of it; the status.
+pub fn decode(input: &[u8], decoded: &Decoded, room: usize) -> u8 {
+    let expected = |out: &mut [u8]| {
+        let (status, result) = decoded.within(room);
+        out[..result.len()].copy_from_slice(result);
+        (status, result.len())
+    };
+    let call = || format!("decode {input:02x?} into {room}");
+    both([room], call, |[out]| expected(out), |[out]| proved::decode(input, out)).0 .0
 }

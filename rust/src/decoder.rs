@@ -1,7 +1,8 @@
 //! A second decoder, written from document 01 alone. The window is a queue of layers, the top one first: a round takes
 //! the last one out and puts a new one in front. A mark is a root by its round, so falling leaves it as it is.
 
-use crate::streams::{self, Done, Shape, Stop};
+use crate::decoding::{self, number_of, Decoded, Decoder, Ran, BUDGET};
+use crate::streams::Shape;
 use std::cmp::Reverse;
 use std::collections::VecDeque;
 use std::sync::Arc;
@@ -125,7 +126,7 @@ impl Sheet {
     }
 
     /// The detectors, row by row.
-    fn detectors(&self) -> impl Iterator<Item = usize> + '_ {
+    pub fn detectors(&self) -> impl Iterator<Item = usize> + '_ {
         (0..self.nodes()).filter(|&node| self.detector(node))
     }
 
@@ -165,13 +166,6 @@ pub struct Window {
     pub layers: VecDeque<Layer>,
 }
 
-/// How a run ended, with the count of steps.
-#[derive(Debug, Clone, Copy, PartialEq, Eq)]
-pub enum Ran {
-    Rest(u32),
-    Spent(u32),
-}
-
 fn refuse(bad: bool, number: u8) -> Result<(), u8> {
     if bad {
         Err(number)
@@ -180,21 +174,17 @@ fn refuse(bad: bool, number: u8) -> Result<(), u8> {
     }
 }
 
-/// The number of a refusal.
-fn number_of(stop: Stop) -> u8 {
-    match stop {
-        Stop::Refused(number) | Stop::RefusedAt(number, _) => number,
-        Stop::End => unreachable!("the end is no refusal"),
-    }
-}
-
 // Every window here is well-formed: 21 is for whoever reads one from elsewhere.
 impl Window {
     pub fn fresh(height: u32, distance: u32) -> Result<Window, u8> {
-        let sheet = Arc::new(Sheet::new(Shape::new(height, distance).map_err(number_of)?));
+        Ok(Window::new(Shape::new(height, distance).map_err(number_of)?))
+    }
+
+    fn new(shape: Shape) -> Window {
+        let sheet = Arc::new(Sheet::new(shape));
         let next = sheet.sheets() as u32;
         let layers = (0..i64::from(next)).rev().map(|round| sheet.fresh(round)).collect();
-        Ok(Window { sheet, stage: Stage::Rest, next, layers })
+        Window { sheet, stage: Stage::Rest, next, layers }
     }
 
     /// The round that a depth holds; the ghost sheet's depth is one more than the bottom's.
@@ -354,42 +344,17 @@ impl Window {
     }
 }
 
-/// What `decode` writes: the result stream, and the line on standard error.
-#[derive(Debug, PartialEq, Eq)]
-pub struct Decoded {
-    pub result: Vec<u8>,
-    pub line: String,
-}
+impl Decoder for Window {
+    fn open(shape: Shape) -> Window {
+        Window::new(shape)
+    }
 
-pub const LONGEST: usize = 65_536;
-pub const BUDGET: u32 = 65_536;
+    fn receive(&mut self, bytes: &[u8], edges: &mut [u8], escapes: &mut [u8]) -> Result<Ran, u8> {
+        self.round(bytes, edges, escapes)?;
+        self.run(BUDGET)
+    }
+}
 
 pub fn decode(input: &[u8]) -> Decoded {
-    let mut result = vec![];
-    let line =
-        if input.len() > LONGEST { "long\n".into() } else { rounds(input, &mut result).err().unwrap_or_default() };
-    Decoded { result, line }
-}
-
-fn rounds(input: &[u8], result: &mut Vec<u8>) -> Result<(), String> {
-    let refused = |number: u8| format!("refused {number}\n");
-    let Done((height, distance), mut at) = streams::read_header(input, 0).map_err(|stop| refused(number_of(stop)))?;
-    let mut window = Window::fresh(height, distance).map_err(refused)?;
-    result.extend([streams::number_bytes(height), streams::number_bytes(distance)].concat());
-    let shape = window.sheet.shape;
-    let (mut bytes, mut escapes, mut edges) =
-        (vec![0; shape.detectors()], vec![0; shape.detectors()], vec![0; shape.edges()]);
-    loop {
-        match streams::read_round(height, distance, input, at, &mut bytes) {
-            Ok(Done((), next)) => at = next,
-            Err(Stop::End) => return Ok(()),
-            Err(stop) => return Err(refused(number_of(stop))),
-        }
-        window.round(&bytes, &mut edges, &mut escapes).map_err(refused)?;
-        let Ran::Rest(steps) = window.run(BUDGET).map_err(refused)? else {
-            return Err("spent\n".into());
-        };
-        let record = [streams::list_bytes(&edges), streams::list_bytes(&escapes), streams::number_bytes(steps)];
-        result.extend(record.concat());
-    }
+    decoding::decode::<Window>(input)
 }

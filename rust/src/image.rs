@@ -1,6 +1,7 @@
 //! A window as the proved crates hold it, well-formed or not: all its entries, in their internal order.
 
 use crate::decoder::{Edge, Layer, Node, Sheet, Stage, Way, Window};
+use crate::decoding::Ran;
 
 /// An entry for a node. Pointers are 0 for C and 1 to 6 in the scan order; no mark is reset.
 #[derive(Debug, Clone, Copy, PartialEq, Eq)]
@@ -161,5 +162,9 @@ impl Image {
 
     pub fn merging(&mut self) -> Result<bool, u8> {
         self.call(Window::merging)
+    }
+
+    pub fn run(&mut self, budget: u32) -> Result<Ran, u8> {
+        self.call(|window| window.run(budget))
     }
 }

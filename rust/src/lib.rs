@@ -1,11 +1,15 @@
-//! A second opinion on the proved streams: `streams` says what document 01 asks for, `proved` calls the
-//! archive, and `compare` holds every answer and every byte of the one against the other. `decoder` is a second
-//! decoder; `replay` plays the stored script of `crates/replay` on it, which `script` writes.
+//! A second opinion on the proved code. `streams` says what document 01 asks for, `proved` calls the archive, and
+//! `compare` holds every answer and every byte of the one against the other. `decoder` is a second decoder, which
+//! `decoding` takes through a whole stream; `replay` plays the stored script of `crates/replay` on it, which `script`
+//! writes. `dense` is a plain decoder for the benchmark.
 
 pub mod cases;
 pub mod compare;
 pub mod decoder;
+pub mod decoding;
+pub mod dense;
 pub mod image;
+pub mod noise;
 pub mod proved;
 pub mod random;
 pub mod replay;

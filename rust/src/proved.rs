@@ -85,6 +85,7 @@ extern "C" {
         at: usize,
         place: *mut usize,
     ) -> u8;
+    fn baizeridge_decode(src: *const u8, src_len: usize, out: *mut u8, out_len: usize, written: *mut usize) -> u8;
     fn baizeridge_nodes(height: u32, distance: u32) -> usize;
     fn baizeridge_detectors(height: u32, distance: u32) -> usize;
     fn baizeridge_layer_edges(height: u32, distance: u32) -> usize;
@@ -231,4 +232,13 @@ pub fn write_result(
             place,
         )
     }))
+}
+
+/// The status, and the length of the result stream, which is stored in every case.
+pub fn decode(src: &[u8], out: &mut [u8]) -> (u8, usize) {
+    let mut written = [PLACE; 3];
+    let place = written.as_mut_ptr().wrapping_add(1);
+    let status = unsafe { baizeridge_decode(src.as_ptr(), src.len(), out.as_mut_ptr(), out.len(), place) };
+    assert_eq!((written[0], written[2]), (PLACE, PLACE), "status {status}: stored beside an out-parameter");
+    (status, written[1])
 }

@@ -25,6 +25,11 @@ impl Random {
         self.below(n) == 0
     }
 
+    /// With a chance in millionths.
+    pub fn hit(&mut self, chance: usize) -> bool {
+        self.below(1_000_000) < chance
+    }
+
     pub fn pick<T: Copy>(&mut self, from: &[T]) -> T {
         from[self.below(from.len())]
     }

@@ -1,6 +1,7 @@
 //! The second decoder under the script of `crates/replay`, whose comment has the commands and what is written.
 
 use crate::decoder::Stage;
+use crate::decoding::Ran;
 use crate::image::{Entry, Image};
 
 /// A player with its window.
@@ -86,6 +87,14 @@ impl Player {
                     }
                 }
                 written
+            }
+            "run" => {
+                let answer = self.image.run(number(1));
+                self.line(match answer {
+                    Ok(Ran::Rest(count)) => format!("run rest {count}"),
+                    Ok(Ran::Spent(count)) => format!("run spent {count}"),
+                    Err(number) => format!("run refused {number}"),
+                })
             }
             "#" => format!("{line}\n"),
             edit => {

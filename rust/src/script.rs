@@ -1,5 +1,7 @@
 //! The script that is stored with `crates/replay`.
 
+mod runs;
+
 use crate::decoder::{Stage, Window};
 use crate::image::{self, Entry, Image};
 use crate::random::Random;
@@ -26,6 +28,7 @@ fn stage_line(stage: Stage) -> String {
 /// The whole script.
 pub fn script() -> String {
     let mut script = Script::default();
+    script.printed();
     script.shapes();
     script.sessions();
     script.lengths();
@@ -34,6 +37,7 @@ pub fn script() -> String {
     script.ill_formed();
     script.edited();
     script.noisy();
+    script.runs();
     assert!(script.text.len() <= 65_536);
     script.text
 }
@@ -86,7 +90,7 @@ impl Script {
         }
         self.add("# what a refused shape gives is no window");
         self.add("open 0 3");
-        for call in ["round 0 0", "grow", "merging 1"] {
+        for call in ["round 0 0", "grow", "merging 1", "run 1"] {
             self.add(call);
         }
     }
@@ -174,7 +178,7 @@ impl Script {
         let shape =
             Shape::new(edited.height.into(), edited.distance.into()).or_else(|_| Shape::new(1, 2)).expect("a shape");
         let round = format!("round {} {} {}", shape.edges(), shape.detectors(), "0".repeat(shape.detectors()));
-        for call in [round.as_str(), "grow", "merging 1"] {
+        for call in [round.as_str(), "grow", "merging 1", "run 1"] {
             assert!(self.add(call).contains(" refused 21 "), "{edit}, {call}");
             assert!(*self.image() == edited);
         }
@@ -302,6 +306,9 @@ impl Script {
                     self.add(stage_line(random.pick(&[Stage::Rest, Stage::ToGrow, Stage::Merging, Stage::Merging])));
                 }
                 (0..8).for_each(|_| self.random_edit(&mut random));
+                if turn == case % 3 {
+                    self.try_run(&mut random);
+                }
                 if self.image().stage == Stage::ToGrow {
                     self.add("grow");
                 }

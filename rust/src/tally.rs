@@ -18,6 +18,10 @@ impl Tally {
             Err(Stop::End) => END,
             Err(Stop::Refused(refusal) | Stop::RefusedAt(refusal, _)) => *refusal,
         };
+        self.status(status);
+    }
+
+    pub fn status(&mut self, status: u8) {
         *self.0.entry(status).or_default() += 1;
     }
 

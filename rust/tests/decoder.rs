@@ -1,15 +1,14 @@
 //! The second decoder on what document 01 prints.
 
-use baizeridge_tests::decoder::{decode, Decoded, Ran, Sheet, Stage, Window};
+use baizeridge_tests::decoder::{self, Sheet, Stage, Window};
+use baizeridge_tests::decoding::{Ran, DECODED};
 use baizeridge_tests::random::Random;
 use baizeridge_tests::streams::Shape;
 
-fn decoded(result: &[u8]) -> Decoded {
-    Decoded { result: result.to_vec(), line: String::new() }
-}
-
-fn refused(result: &[u8], number: u8) -> Decoded {
-    Decoded { result: result.to_vec(), line: format!("refused {number}\n") }
+/// Status and result.
+fn decode(input: &[u8]) -> (u8, Vec<u8>) {
+    let decoded = decoder::decode(input);
+    (decoded.status, decoded.result)
 }
 
 /// A window and buffers that fit it.
@@ -22,13 +21,13 @@ fn opened(height: u32, distance: u32) -> (Window, Vec<u8>, Vec<u8>) {
 #[test]
 fn first_session() {
     let result = [[1, 3].as_slice(), &[0, 0, 2], &[0, 0, 1], &[0, 0, 4], &[1, 0, 0, 2]].concat();
-    assert_eq!(decode(&[1, 3, 1, 0, 0, 0, 0]), decoded(&result));
+    assert_eq!(decode(&[1, 3, 1, 0, 0, 0, 0]), (DECODED, result));
 }
 
 #[test]
 fn second_session() {
     let result = [[1, 3].as_slice(), &[0, 0, 2], &[0, 0, 5], &[0, 0, 1], &[1, 1, 0, 1]].concat();
-    assert_eq!(decode(&[1, 3, 2, 0, 0, 0, 0, 0]), decoded(&result));
+    assert_eq!(decode(&[1, 3, 2, 0, 0, 0, 0, 0]), (DECODED, result));
 }
 
 #[test]
@@ -101,15 +100,24 @@ fn shapes() {
 
 #[test]
 fn streams_that_end_early() {
-    assert_eq!(decode(&[]), refused(&[], 7));
-    assert_eq!(decode(&[0]), refused(&[], 1));
-    assert_eq!(decode(&[1]), refused(&[], 7));
-    assert_eq!(decode(&[1, 16]), refused(&[], 2));
-    assert_eq!(decode(&[1, 3]), decoded(&[1, 3]));
-    assert_eq!(decode(&[1, 3, 1, 0, 3]), refused(&[1, 3, 0, 0, 2], 9));
-    assert_eq!(decode(&[1, 3, 1, 0, 1]), refused(&[1, 3, 0, 0, 2], 7));
-    assert_eq!(decode(&[1, 3, 0x80, 0]), refused(&[1, 3], 8));
-    assert_eq!(decode(&vec![1; 65_537]), Decoded { result: vec![], line: "long\n".into() });
+    assert_eq!(decode(&[]), (7, vec![]));
+    assert_eq!(decode(&[0]), (1, vec![]));
+    assert_eq!(decode(&[1]), (7, vec![]));
+    assert_eq!(decode(&[1, 16]), (2, vec![]));
+    assert_eq!(decode(&[1, 3]), (DECODED, vec![1, 3]));
+    assert_eq!(decode(&[1, 3, 1, 0, 3]), (9, vec![1, 3, 0, 0, 2]));
+    assert_eq!(decode(&[1, 3, 1, 0, 1]), (7, vec![1, 3, 0, 0, 2]));
+    assert_eq!(decode(&[1, 3, 0x80, 0]), (8, vec![1, 3]));
+}
+
+#[test]
+fn buffers_that_are_too_small() {
+    let decoded = decoder::decode(&[1, 3, 1, 0, 0, 0, 0]);
+    assert_eq!(decoded.ends, [2, 5, 8, 11, 15]);
+    for (room, written) in [(0, 0), (1, 0), (2, 2), (4, 2), (5, 5), (13, 11), (14, 11)] {
+        assert_eq!(decoded.within(room), (11, &decoded.result[..written]));
+    }
+    assert_eq!(decoded.within(15), (DECODED, &decoded.result[..]));
 }
 
 /// Random rounds, on every shape: what is committed and pending, with what escaped, explains every defect received.

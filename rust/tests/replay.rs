@@ -31,6 +31,7 @@ fn every_answer_occurs() {
         ),
         ("grow", vec!["done", "refused 21", "refused 22"]),
         ("merging", vec!["busy", "rest", "refused 21", "refused 22"]),
+        ("run", vec!["rest 1", "rest 4", "spent 0", "spent 1", "spent 3", "refused 21", "refused 22"]),
     ];
     for (call, answers) in answers {
         for answer in answers {
@@ -38,6 +39,24 @@ fn every_answer_occurs() {
             assert!(STDOUT.lines().any(|line| line.starts_with(&start)), "{start}");
         }
     }
+}
+
+/// The lines of document 01's sessions and edges that are not proved, in the script's first part.
+#[test]
+fn the_document_s_lines_are_played() {
+    let (part, _) = STDOUT.split_once("# the end\n").expect("the first part has an end");
+    let answers: Vec<&str> =
+        part.lines().filter(|line| !line.starts_with('#')).filter_map(|line| Some(line.rsplit_once(' ')?.0)).collect();
+    let session = ["open done", "round done 00000 00", "run rest 2", "round done 00000 00", "run rest 1"];
+    let expected = [
+        &session[..],
+        &["round done 00000 00", "run rest 4"],
+        &session,
+        &["round done 00000 00", "run spent 3", "merging rest"],
+        &["open done", "round refused 3 77777 77", "round refused 3 77777 77", "grow refused 22"],
+        &["edit", "round done 00000 00"],
+    ];
+    assert_eq!(answers, expected.concat());
 }
 
 /// What is refused leaves the window and the buffers as they were.

@@ -1,7 +1,7 @@
 -- What a call leaves, by what its tests say. Assumes nothing.
 use Prim.Native.Nat.{ℕ}
 use mathlib.Core.Path.{_≡_, refl, sym, _∙_, ap, subst}
-use mathlib.Core.Bool.{Bool, true, false}
+use mathlib.Core.Bool.{Bool, true, false, not}
 use mathlib.Core.List.{List, [], _∷_}
 use Rattle.refusal.specs.Answer.{Answer, done, refused, turned, unless, valueOr, andThen, itself}
 use Rattle.refusal.specs.Laws.{turned-not, turned-passed, value-not, turned-as}
@@ -12,12 +12,14 @@ use Rattle.shape.specs.Steps.{base}
 use Rattle.window.specs.Window.{isRest, isMerging, isToGrow}
 use Rattle.window.specs.Merging.{merged}
 use Rattle.window.specs.Formed.{wellFormed}
-use Rattle.window.specs.Calls.{told, Answered, given, leaves, stateTests, mergingCall, growCall}
+use Rattle.window.specs.Calls.{told, Answered, given, leaves, stateTests, mergingCall, growCall, runCall}
 use Rattle.window.specs.declared.Called.{Called}
 use Rattle.window.specs.declared.Called.the-variants as called
 use Rattle.window.specs.declared.Window.{Window}
-use Rattle.calls.specs.Answers.{mergingLeaves}
+use Rattle.calls.specs.Answers.{mergingLeaves, Ended, ended, runLeaves}
 use Rattle.window.specs.Grow.{grown}
+use Rattle.window.specs.Run.{ran}
+use Rattle.window.specs.declared.Ran.{Ran}
 
 abbrev pub fine : Answer (Unit {0})
 fine = done tt 0
@@ -93,3 +95,22 @@ module _ (w : Window) (b : Bool) (same : b ≡ isMerging (w .stage)) (r : Called
   unfolding mergingCall
   merging-done v rest z e f =
       rw (f, e) (sym (ap (λ (a : Answer Window). merges w a) (state-passes w b (isMerging (w .stage)) same r as-told z Window (done (merged base w) 0))))
+
+-- RUNNING
+
+abbrev runs : Window → Answer Ran → Answered Ended
+runs w a = given (andThen a (λ r n. done (ended (r .rest) (r .count)) n)) (valueOr a (λ r. r .window) w)
+
+module _ (w : Window) (budget : ℕ) (b : Bool) (same : b ≡ not (isRest (w .stage))) (r : Called) (as-told : told r ≡ unless (stateTests base w b) fine) where
+  pub run-refused : (f : Refusal) → r ≡ called.Refused f → given (turned f) w ≡ runLeaves base w budget
+  unfolding runCall
+  run-refused f z =
+      sym (ap (λ (a : Answer Ran). runs w a) (state-turned w b (not (isRest (w .stage))) same r as-told f z Ran (done (ran base budget w) 0)) ∙ rw (
+        turned-as {B = Ended} f (λ (v : Ran) n. done (ended (v .rest) (v .count)) n),
+        value-not (turned {A = Ran} f) (λ (v : Ran). v .window) w (turned-not Ran f),
+      ))
+
+  pub run-done : (v : Ran) (e : Ended) → r ≡ called.Done → v ≡ ran base budget w → e ≡ ended (v .rest) (v .count) → given (done e 0) (v .window) ≡ runLeaves base w budget
+  unfolding runCall
+  run-done v e z f g =
+      rw (g, f) (sym (ap (λ (a : Answer Ran). runs w a) (state-passes w b (not (isRest (w .stage))) same r as-told z Ran (done (ran base budget w) 0))))

@@ -5,8 +5,10 @@ use mathlib.Core.List.{List}
 use Rattle.refusal.specs.Answer.{Answer, done, turned, andThen, passed, valueOr, itself}
 use Rattle.shape.specs.Steps.{Table}
 use Rattle.window.specs.Window.{isRest}
-use Rattle.window.specs.Calls.{Answered, given, windowOf, edgesOf, escapesOf, roundCall, mergingCall}
+use Rattle.window.specs.Calls.{Answered, given, windowOf, edgesOf, escapesOf, roundCall, mergingCall, runCall}
 use Rattle.window.specs.declared.Window.{Window}
+use Rattle.calls.specs.declared.Outcome.{Outcome}
+use Rattle.calls.specs.declared.Outcome.the-variants as outcome
 use Rattle.calls.specs.declared.Merged.{Merged}
 use Rattle.calls.specs.declared.Merged.the-variants as merged
 
@@ -38,3 +40,23 @@ abbrev pub mergingLeaves : Table → Window → Answered Bool
 mergingLeaves T w =
     let a = mergingCall T w in
     given (andThen a (λ v n. done (isRest (v .stage)) n)) (valueOr a itself w)
+
+-- RUN: at rest with the count of steps made, or spent with it
+
+pub data Ended : Type 0 where
+  rest : ℕ → Ended
+  spent : ℕ → Ended
+
+abbrev pub toldRun : Outcome → Answer Ended
+toldRun (outcome.Rest n) = done (rest n) 0
+toldRun (outcome.Spent n) = done (spent n) 0
+toldRun (outcome.Refused f) = turned f
+
+abbrev pub ended : Bool → ℕ → Ended
+ended true n = rest n
+ended false n = spent n
+
+abbrev pub runLeaves : Table → Window → ℕ → Answered Ended
+runLeaves T w budget =
+    let a = runCall T w budget in
+    given (andThen a (λ r n. done (ended (r .rest) (r .count)) n)) (valueOr a (λ r. r .window) w)

@@ -14,7 +14,7 @@ ghost use Rattle.shape.specs.Sizes.{inRange};
 ghost use Rattle.shape.specs.Steps.{base};
 ghost use Rattle.window.specs.Fresh.{freshWindow, noWindow};
 ghost use Rattle.window.specs.Calls.{told, given, leaves, stateTests, roundTests, freshCall, growCall};
-ghost use Rattle.calls.specs.Answers.{received, roundLeaves, toldMerged, mergingLeaves};
+ghost use Rattle.calls.specs.Answers.{received, roundLeaves, toldMerged, mergingLeaves, toldRun, runLeaves};
 
 // How a merging step ended: some node was busy, or none was and the stage is rest.
 pub enum Merged {
@@ -25,6 +25,18 @@ pub enum Merged {
 
 pub struct Stepped {
     pub answer: Merged,
+    pub window: Window,
+}
+
+// How a run ended: at rest, or with its budget spent; with the count of steps made.
+pub enum Outcome {
+    Rest(u32),
+    Spent(u32),
+    Refused(Refusal),
+}
+
+pub struct Concluded {
+    pub answer: Outcome,
     pub window: Window,
 }
 
@@ -189,6 +201,32 @@ pub fn merging(w: Window) -> Stepped
     }
     Stepped {
         answer: Merged::Busy,
+        window,
+    }
+}
+
+// Runs a window to rest, or through its budget of merging steps: it grows if that is due.
+pub fn run(w: Window, budget: u32) -> Concluded
+    ensures { λ r. ⌜ given (toldRun (r .answer)) (r .window) ≡ runLeaves base w budget ⌝ }
+{
+    let stage = w.stage;
+    let tested = test_state(w, !window::is_rest(stage));
+    if let Called::Refused(f) = tested {
+        return Concluded {
+            answer: Outcome::Refused(f),
+            window: w,
+        };
+    }
+    let ran = run::run(w, budget);
+    let window = ran.window;
+    if ran.rest {
+        return Concluded {
+            answer: Outcome::Rest(ran.count),
+            window,
+        };
+    }
+    Concluded {
+        answer: Outcome::Spent(ran.count),
         window,
     }
 }

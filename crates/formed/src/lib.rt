@@ -14,7 +14,7 @@ ghost use Rattle.shape.specs.Steps.{base};
 ghost use Rattle.walk.specs.Walk.{Stands};
 ghost use Rattle.window.specs.Lists.{every, all};
 ghost use Rattle.window.specs.Window.{reach, size};
-ghost use Rattle.window.specs.Formed.{markFits, isZero, unusedNode, pointerFits, nodeFits, isEmpty, slotFits, nodeFitsAt, slotFitsAt, wellFormed};
+ghost use Rattle.window.specs.Formed.{markFits, unusedNode, pointerFits, nodeFits, isEmpty, slotFits, nodeFitsAt, slotFitsAt, wellFormed};
 
 // Marks are numbers of nodes, reset only in stage merging.
 fn mark_fits(stage: Stage, marks: usize, mark: Mark) -> bool
@@ -59,13 +59,16 @@ fn node_fits(shape: Shape, stage: Stage, marks: usize, place: Place, g: usize, n
     if !mark_fits(stage, marks, mark) {
         return false;
     }
+    if (node.pointer == 0) & !node.defect {
+        return true;
+    }
     if !pointer_fits(shape, stage, place, g, node.pointer) {
         return false;
     }
     !(shape::is_boundary(shape, place.column) & node.defect)
 }
 
-// Growth is at most 2, and nothing stands in a slot without an edge. Most slots are empty: no step is taken for them.
+// Growth is at most 2, and nothing stands in a slot without an edge.
 fn slot_fits(
     shape: Shape,
     place: Place,
@@ -84,20 +87,26 @@ fn slot_fits(
     (halves <= 2) & way.there
 }
 
-fn is_zero(mark: Mark) -> bool
-    ensures { λ r. ⌜ r ≡ isZero mark ⌝ }
+// The three slots of a node, E, S and U: their halves, and whether they flip. Most are empty: no step is taken for them.
+fn slots_fit(
+    shape: Shape,
+    place: Place,
+    g: usize,
+    e: u8,
+    s: u8,
+    u: u8,
+    fe: bool,
+    fs: bool,
+    fu: bool,
+) -> bool
+    requires { ⌜ Stands (shape .height) (shape .distance) place g ⌝ }
+    ensures { λ r. ⌜ r ≡ slotFits (reach base (shape .height) (shape .distance) (sheetsOf (shape .distance)) 3 place .there) e fe && slotFits (reach base (shape .height) (shape .distance) (sheetsOf (shape .distance)) 4 place .there) s fs && slotFits (reach base (shape .height) (shape .distance) (sheetsOf (shape .distance)) 6 place .there) u fu ⌝ }
 {
-    match mark {
-        Mark::Reset => false,
-        Mark::Root(m) => m == 0,
+    if (((e == 0) & (s == 0)) & (u == 0)) & ((!fe & !fs) & !fu) {
+        return true;
     }
-}
-
-fn unused_node(node: Node) -> bool
-    ensures { λ r. ⌜ r ≡ unusedNode node ⌝ }
-{
-    let mark = node.mark;
-    (((!node.active & !node.defect) & !node.unrooted) & (node.pointer == 0)) & is_zero(mark)
+    (slot_fits(shape, place, g, 3, e, fe) & slot_fits(shape, place, g, 4, s, fs))
+        & slot_fits(shape, place, g, 6, u, fu)
 }
 
 // Every node and every slot of the window.
@@ -120,10 +129,17 @@ fn used_fit(w: Window) -> bool
             return false;
         }
         let e = 3 * g;
-        let east = slot_fits(shape, place, g, 3, w.growth[e], w.correction[e]);
-        let south = slot_fits(shape, place, g, 4, w.growth[e + 1], w.correction[e + 1]);
-        let up = slot_fits(shape, place, g, 6, w.growth[e + 2], w.correction[e + 2]);
-        if !((east & south) & up) {
+        if !slots_fit(
+            shape,
+            place,
+            g,
+            w.growth[e],
+            w.growth[e + 1],
+            w.growth[e + 2],
+            w.correction[e],
+            w.correction[e + 1],
+            w.correction[e + 2],
+        ) {
             return false;
         }
         place = walk::next_place(shape, place);
@@ -132,7 +148,7 @@ fn used_fit(w: Window) -> bool
     true
 }
 
-// Behind the window's nodes nothing stands.
+// Behind the window's nodes nothing stands. The test is written out: a function that takes the node costs twice the time.
 fn rest_unused(w: Window, n: usize) -> bool
     requires { ⌜ n ≤ 3600 ⌝ }
     ensures { λ r. ⌜ r ≡ all unusedNode (drop n (w .nodes)) ⌝ }
@@ -140,7 +156,11 @@ fn rest_unused(w: Window, n: usize) -> bool
     let mut g = n;
     while g < 3600 {
         let node = w.nodes[g];
-        if !unused_node(node) {
+        let mark = node.mark;
+        let Mark::Root(m) = mark else {
+            return false;
+        };
+        if !((((!node.active & !node.defect) & !node.unrooted) & (node.pointer == 0)) & (m == 0)) {
             return false;
         }
         g += 1;
@@ -148,30 +168,29 @@ fn rest_unused(w: Window, n: usize) -> bool
     true
 }
 
+// No early return here and below, so that many entries are read at once.
 fn halves_unused(growth: &[u8], n: usize) -> bool
     ensures { λ r. ⌜ r ≡ all isEmpty (drop n (now (growth .entry))) ⌝ }
 {
+    let mut unused = true;
     let mut e = n;
     while e < growth.len() {
-        if growth[e] != 0 {
-            return false;
-        }
+        unused = unused & (growth[e] == 0);
         e += 1;
     }
-    true
+    unused
 }
 
 fn bits_unused(correction: &[bool], n: usize) -> bool
     ensures { λ r. ⌜ r ≡ all not (drop n (now (correction .entry))) ⌝ }
 {
+    let mut unused = true;
     let mut e = n;
     while e < correction.len() {
-        if correction[e] {
-            return false;
-        }
+        unused = unused & !correction[e];
         e += 1;
     }
-    true
+    unused
 }
 
 pub fn well_formed(w: Window) -> bool

@@ -1,12 +1,45 @@
-pub mod Lists
-pub mod Sized
-pub mod Suited
-pub mod Facts
-pub mod Fresh
-pub mod Grow
-pub mod Scan
-pub mod Merging
-pub mod Run
-pub mod Lower
-pub mod Round
-pub mod Closure
+-- the statement, and what is to be shown of each rule
+pub mod Law
+pub mod Rules
+pub mod Play
+-- bits, sums, nodes and edges
+pub mod Bits
+pub mod Sums
+pub mod Nodes
+pub mod Ways
+pub mod Naming
+pub mod LowerNumbers
+pub mod LowerSlots
+-- the clusters: what holds of them in each stage
+pub mod Graph
+pub mod GraphLaws
+pub mod Fallen
+pub mod ClustersFresh
+pub mod ClustersRound
+pub mod ClustersGrow
+pub mod Turn
+pub mod Flood
+pub mod ClustersMerging
+pub mod Quiet
+pub mod ClustersRest
+pub mod Rested
+pub mod Clusters
+-- conservation: no defect is lost
+pub mod Spots
+pub mod Receipts
+pub mod Conserved
+pub mod ConservedFresh
+pub mod ConservedGrow
+pub mod Layered
+pub mod LayerEdges
+pub mod LayerEnds
+pub mod RoundEdges
+pub mod RoundDefects
+pub mod ConservedRound
+pub mod Around
+pub mod Pushed
+pub mod ConservedMerging
+pub mod Conservation
+-- the proof, and the ends of an edge in plain numbers
+pub mod Theorem
+pub mod Plain

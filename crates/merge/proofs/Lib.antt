@@ -1,2 +1,5 @@
 pub mod Directions
 pub mod Turn
+pub mod Marks
+pub mod Peace
+pub mod Calm

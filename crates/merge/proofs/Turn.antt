@@ -2,13 +2,18 @@
 use Prim.Native.Nat.{ℕ, zero, suc, _+_, _-_, _*_, _≤_, _<_}
 use native.Mathlib.Numerals.{add-one}
 use native.Mathlib.Omega.{arith}
-use mathlib.Core.Path.{_≡_, refl, sym, _∙_, ap}
+use mathlib.Core.Path.{_≡_, refl, sym, _∙_, ap, subst}
 use mathlib.Core.Bool.{Bool, false, not}
 use mathlib.Core.List.{List, [], _∷_}
+use borrow.Author.Tests.{lt-ltb}
+use lib.Dec.{ltb}
 use lib.ListN.{length, getD, replicate}
-use Rattle.shape.specs.Choice.{if}
-use Rattle.shape.specs.Sizes.{sheetsOf, boundary}
-use Rattle.shape.specs.Nodes.{numberOf}
+use Rattle.shape.specs.Choice.{if, if-true}
+use Rattle.shape.specs.Sizes.{sheetsOf, boundary, inRange, nodesIn, nodesOf}
+use Rattle.shape.specs.Ranges.{both, in-range, nodes-of}
+use Rattle.shape.specs.Nodes.{numberOf, placeAt, isIndex, indexedIn}
+use Rattle.shape.specs.declared.Found.{Found}
+use Rattle.shape.specs.declared.Found.the-variants.{At, Nowhere}
 use Rattle.shape.specs.Steps.{base, step, here}
 use Rattle.shape.specs.declared.Place.{Place}
 use Rattle.window.specs.Lists.{byPlace, over, any}
@@ -21,11 +26,11 @@ use Rattle.window.specs.declared.Stage.{Stage}
 use Rattle.window.specs.declared.Stage.the-variants.{Rest, Merging}
 use Rattle.window.specs.declared.Way.{Way}
 use Rattle.window.specs.declared.Window.{Window}
-use Rattle.walk.specs.LawsWalk.{three-kinds, slot-at}
+use Rattle.walk.specs.LawsWalk.{three-kinds, slot-at, peopled}
 
 -- THE TABLE
 
-six-steps : length (base .steps) ≡ 6
+pub six-steps : length (base .steps) ≡ 6
 unfolding base
 six-steps = refl
 
@@ -42,6 +47,22 @@ backs (suc (suc (suc (suc (suc (suc k)))))) l = absurd (omega arith)
 -- the direction back
 pub back-of : (k : ℕ) → k < 6 → getD (4 ∷ 3 ∷ 2 ∷ 1 ∷ 6 ∷ 5 ∷ []) k 0 ≡ step base (k + 1) .back
 back-of k l = rw (add-one k) (backs k l)
+
+-- THE PLACE of a node of the window
+
+module _ (h d g : ℕ) (f : Found) (l : g < nodesOf h d) (e : f ≡ indexedIn h d g) where
+  found : f ≡ At (placeAt h d g)
+  unfolding indexedIn
+  found =
+      let r = peopled h d g l in
+      let m = lt-ltb g (nodesIn h d (sheetsOf d)) (subst (λ (n : ℕ). g < n) (nodes-of h d r) l) in
+      e ∙ if-true (isIndex h d g) (At (placeAt h d g)) Nowhere (both (inRange h d) (ltb g (nodesIn h d (sheetsOf d))) (in-range h d r) m)
+
+  pub at-place : (q : Place) → f ≡ At q → q ≡ placeAt h d g
+  at-place q p = ap (λ (x : Found). elim x [ At y ↦ y | Nowhere ↦ q ]) (sym p ∙ found)
+
+  pub not-nowhere : (q : Place) → f ≡ Nowhere → q ≡ placeAt h d g
+  not-nowhere q p = let t : At (placeAt h d g) ≡ Nowhere = sym found ∙ p in let z : _≡_ {A = ℕ} 0 1 = cc in absurd (omega arith)
 
 -- ONE NODE
 

@@ -1,4 +1,5 @@
 // One merging step of a window: every node reads the window as it was, and its neighbours in the scan order.
+use shape::Found;
 use shape::Place;
 use shape::Shape;
 use window::Flooded;
@@ -12,10 +13,13 @@ use window::Window;
 ghost use mathlib.Core.Path.{_≡_};
 ghost use mathlib.Core.Bool.{false};
 ghost use Rattle.shape.specs.Choice.{if};
-ghost use Rattle.shape.specs.Nodes.{numberOf};
+ghost use Prim.Native.Nat.{_+_, _-_, _*_, _<_};
+ghost use Rattle.shape.specs.Nodes.{numberOf, placeAt};
+ghost use Rattle.shape.specs.Sizes.{nodesOf};
 ghost use Rattle.shape.specs.Steps.{base};
 ghost use Rattle.walk.specs.Walk.{Stands};
 ghost use Rattle.window.specs.Merging.{sees, pushes as pushesAlong, syncedActive, arrivals, flipped, scan as scanned, floods, stepped, merged, nothing as nothingSeen};
+ghost use Rattle.merge.specs.Stirred.{numbered as isNumbered, settled as isSettled, differ as theyDiffer, uneven as isUneven, within as withinNodes, marked, stirs, Room, stirred as stirredBy};
 ghost use Rattle.window.specs.declared.Stage.the-variants as stage;
 
 const BACK: [u8; 6] = [4, 3, 2, 1, 6, 5];
@@ -206,6 +210,139 @@ fn stage_after(busy: bool) -> Stage
     Stage::Rest
 }
 
+fn numbered(mark: Mark) -> bool
+    ensures { λ r. ⌜ r ≡ isNumbered mark ⌝ }
+{
+    match mark {
+        Mark::Reset => false,
+        Mark::Root(_) => true,
+    }
+}
+
+// A node that only its neighbours can change.
+fn settled(node: Node) -> bool
+    ensures { λ r. ⌜ r ≡ isSettled node ⌝ }
+{
+    let mark = node.mark;
+    numbered(mark) & !node.active & !node.defect
+}
+
+fn differ(a: Mark, b: Mark) -> bool
+    ensures { λ r. ⌜ r ≡ theyDiffer a b ⌝ }
+{
+    match a {
+        Mark::Reset => true,
+        Mark::Root(k) => match b {
+            Mark::Reset => true,
+            Mark::Root(m) => k != m,
+        },
+    }
+}
+
+// An edge over which a mark may go.
+fn uneven(growth: u8, a: Node, b: Node) -> bool
+    ensures { λ r. ⌜ r ≡ isUneven growth a b ⌝ }
+{
+    let x = a.mark;
+    let y = b.mark;
+    (growth == 2) & differ(x, y)
+}
+
+// An index of the nodes; any will do for one past their end.
+fn within(i: usize) -> usize
+    ensures { λ r. ⌜ r ≡ withinNodes i ⌝ }
+{
+    if i < 3600 {
+        return i;
+    }
+    0
+}
+
+fn less(g: usize, by: usize) -> usize
+    ensures { λ r. ⌜ r ≡ g - by ⌝ }
+{
+    if g < by {
+        return 0;
+    }
+    g - by
+}
+
+// What is marked stays so.
+fn mark(stirred: &mut [bool; 4080], i: usize, also: bool)
+    requires { ⌜ i < 4080 ⌝ }
+    ensures { λ _. ⌜ now (stirred .exit) ≡ marked i also (now (stirred .entry)) ⌝ }
+{
+    stirred[i] = stirred[i] | also;
+}
+
+// Marks what a node may change: itself, the other ends of its uneven edges, and all neighbours if it is active or pushes.
+fn stir(
+    stirred: &mut [bool; 4080],
+    i: usize,
+    row: usize,
+    sheet: usize,
+    node: Node,
+    east: bool,
+    south: bool,
+    up: bool,
+)
+    requires { ⌜ Room i row sheet ⌝ }
+    ensures { λ _. ⌜ now (stirred .exit) ≡ stirs i row sheet node east south up (now (stirred .entry)) ⌝ }
+{
+    if settled(node) & !east & !south & !up {
+        return;
+    }
+    let loud = node.active | (node.defect & (node.pointer != 0));
+    mark(stirred, i, true);
+    mark(stirred, i + 1, east | loud);
+    mark(stirred, i + row, south | loud);
+    mark(stirred, i - sheet, up | loud);
+    mark(stirred, i - 1, loud);
+    mark(stirred, i - row, loud);
+    mark(stirred, i + sheet, loud);
+}
+
+// The nodes that a step may change: node g at g + 240, so that a sheet has room on both sides.
+fn stirred_nodes(shape: Shape, n: usize, nodes: [Node; 3600], growth: &[u8; 10800]) -> [bool; 4080]
+    requires { ⌜ n ≡ nodesOf (shape .height) (shape .distance) ⌝ }
+    ensures { λ r. ⌜ r ≡ stirredBy (shape .distance + 1) (shape .height * (shape .distance + 1)) nodes (now (growth .entry)) n ⌝ }
+{
+    let row = shape.distance as usize + 1;
+    let sheet = shape.height as usize * row;
+    let mut stirred = [false; 4080];
+    let mut g: usize = 0;
+    'marks: while g < n {
+        let node = nodes[g];
+        let e = 3 * g;
+        if settled(node) & (growth[e] != 2) & (growth[e + 1] != 2) & (growth[e + 2] != 2) {
+            g += 1;
+            continue 'marks;
+        }
+        let east = uneven(growth[e], node, nodes[within(g + 1)]);
+        let south = uneven(growth[e + 1], node, nodes[within(g + row)]);
+        let up = uneven(growth[e + 2], node, nodes[within(less(g, sheet))]);
+        stir(&mut stirred, g + 240, row, sheet, node, east, south, up);
+        g += 1;
+    }
+    stirred
+}
+
+// The place of a node of the window.
+fn place_at(shape: Shape, g: usize) -> Place
+    requires { ⌜ g < nodesOf (shape .height) (shape .distance) ⌝ }
+    ensures { λ r. ⌜ r ≡ placeAt (shape .height) (shape .distance) g ⌝ }
+{
+    let found = shape::indexed(shape, g);
+    match found {
+        Found::At(q) => q,
+        Found::Nowhere => Place {
+            depth: 0,
+            row: 0,
+            column: 0,
+        },
+    }
+}
+
 pub fn merge(w: Window) -> Window
     ensures { λ r. ⌜ r ≡ merged base w ⌝ }
 {
@@ -213,16 +350,17 @@ pub fn merge(w: Window) -> Window
     let n = shape::nodes(shape);
     // what all nodes read: the state at the step's start
     let old = w.nodes;
+    let stirred = stirred_nodes(shape, n, old, &w.growth);
     let mut nodes = old;
     let mut correction = w.correction;
     let mut busy = false;
-    let mut place = Place {
-        depth: 0,
-        row: 0,
-        column: 0,
-    };
     let mut g: usize = 0;
-    while g < n {
+    'nodes: while g < n {
+        if !stirred[g + 240] {
+            g += 1;
+            continue 'nodes;
+        }
+        let place = place_at(shape, g);
         let mut seen = [nothing(); 6];
         let mut k: u8 = 0;
         'look: while k < 6 {
@@ -244,7 +382,6 @@ pub fn merge(w: Window) -> Window
         correction[e] = flip(w.correction[e], detector, node, 3, seen[2]);
         correction[e + 1] = flip(w.correction[e + 1], detector, node, 4, seen[3]);
         correction[e + 2] = flip(w.correction[e + 2], detector, node, 6, seen[5]);
-        place = walk::next_place(shape, place);
         g += 1;
     }
     let growth = w.growth;

@@ -1,12 +1,13 @@
 // Plays a script of calls on one window and says what each call answered, so that the calls can be held against another decoder.
 //
-// The script is text, at most 65,536 bytes: a command a line, by its first letter, then numbers in decimal.
+// The script is text, at most 65,536 bytes: a command a line, by its first letter (`run` by its second too), then numbers in decimal.
 //
 //   open H D                 a fresh window; where it is refused, the one that the call gives
 //   round E S BYTES          a round: edge and escape buffers of E and S bytes (at most 1,024 and 256), each byte 7 before the call;
 //                            the slice's bytes as digits, one a byte (at most 256; none if the line ends)
 //   grow
 //   merging N                merging steps, at least one and at most N, up to one that is not busy
+//   run B                    a run with budget B
 //   dims H D                 edits of the window: its shape,
 //   stage S                  0 rest, 1 to grow, else merging,
 //   next N
@@ -15,9 +16,10 @@
 //   flip I B                 the correction bit at I.
 //   # ..                     is written as it stands.
 //
-// A line is written for each call and each edit: its name; `done`, `busy`, `rest`, or `refused` and the number; of a round the two
-// buffers after the call, a digit a byte (`?` from 10 on); and a digest of the whole window.
+// A line is written for each call and each edit: its name; `done`, `busy`, `rest`, of a run `rest` or `spent` and the count of steps, or
+// `refused` and the number; of a round the two buffers after the call, a digit a byte (`?` from 10 on); and a digest of the whole window.
 use calls::Merged;
+use calls::Outcome;
 use libc::STDOUT_FILENO;
 use shape::Shape;
 use window::Called;
@@ -155,6 +157,25 @@ fn say_merged(answer: Merged) -> bool {
             say_refused(refusal::number(f));
             false
         }
+    }
+}
+
+fn say_count(count: u32) {
+    io::print_decimal(STDOUT_FILENO, count as u64);
+    say(b" ");
+}
+
+fn say_outcome(answer: Outcome) {
+    match answer {
+        Outcome::Rest(n) => {
+            say(b"rest ");
+            say_count(n)
+        }
+        Outcome::Spent(n) => {
+            say(b"spent ");
+            say_count(n)
+        }
+        Outcome::Refused(f) => say_refused(refusal::number(f)),
     }
 }
 
@@ -359,6 +380,14 @@ fn merging(w: Window, most: u32) -> Window {
     window
 }
 
+fn run(w: Window, budget: u32) -> Window {
+    let concluded = calls::run(w, budget);
+    let answer = concluded.answer;
+    say(b"run ");
+    say_outcome(answer);
+    concluded.window
+}
+
 // THE EDITS
 
 fn set_shape(w: Window, height: u32, distance: u32) -> Window {
@@ -514,11 +543,25 @@ fn edit(script: &[u8; 65536], from: usize, letter: u8, w: Window) -> Window {
     }
 }
 
+// The byte behind an offset.
+fn second(script: &[u8; 65536], from: usize) -> u8 {
+    if 65535 <= from {
+        return 0;
+    }
+    script[from + 1]
+}
+
 // The command of a letter, and the window after it.
 fn command(script: &[u8; 65536], from: usize, letter: u8, w: Window) -> Window {
     match letter {
         b'o' => open(script, from),
-        b'r' => round(script, from, w),
+        b'r' => {
+            if second(script, from) == b'u' {
+                let budget = number(script, from);
+                return run(w, budget.value);
+            }
+            round(script, from, w)
+        }
         b'g' => grow(w),
         b'm' => {
             let most = number(script, from);

@@ -1,2 +1,4 @@
 pub mod LawsBottom
+pub mod Slots
+pub mod LawsSlots
 pub mod LawsFall

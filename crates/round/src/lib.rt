@@ -8,16 +8,15 @@ use window::Stage;
 use window::Window;
 ghost use mathlib.Core.Path.{_≡_};
 ghost use mathlib.Core.Bool.{true, false};
-ghost use Prim.Native.Nat.{_+_, _-_, _*_, _<_};
-ghost use lib.Dec.{ltb};
+ghost use Prim.Native.Nat.{_+_, _-_, _*_, _≤_, _<_};
 ghost use lib.ListN.{length};
-ghost use Rattle.shape.specs.Choice.{if};
 ghost use Rattle.shape.specs.Sizes.{inRange, sheetsOf, detectorsOf, layerEdgesOf};
 ghost use Rattle.shape.specs.Nodes.{indexOf};
 ghost use Rattle.shape.specs.Steps.{base};
 ghost use Rattle.shape.specs.Layer.{edgeOf};
 ghost use Rattle.walk.specs.Walk.{Stands};
-ghost use Rattle.window.specs.Lists.{bit};
+ghost use Rattle.window.specs.Lists.{bit, over};
+ghost use Rattle.round.specs.Slots.{sheetNodes, fallen};
 ghost use Rattle.window.specs.Round.{edgeSlot, detectorAt, loweredNumber, lowered, sunk, received, committed, escaped, rounded};
 
 // The depth of the bottom sheet.
@@ -159,44 +158,61 @@ fn receive(shape: Shape, place: Place, g: usize, bytes: &[u8]) -> Node
     window::alone(own, bytes[i] == 1)
 }
 
-// The index one sheet above, 0 in the top sheet.
-fn above(g: usize, sheet: usize) -> usize
-    ensures { λ r. ⌜ r ≡ g - sheet ⌝ }
+// The nodes of a sheet, none where the shape is refused.
+fn sheet_nodes(shape: Shape) -> usize
+    ensures { λ r. ⌜ r ≡ sheetNodes (shape .height) (shape .distance) ⌝ }
 {
-    if g < sheet {
+    if !shape::ranged(shape) {
         return 0;
     }
-    g - sheet
+    shape.height as usize * (shape.distance as usize + 1)
 }
 
-// What a slot holds: nothing at a new edge, else what stood one sheet above.
-fn fallen_halves(top: bool, old: u8) -> u8
-    ensures { λ r. ⌜ r ≡ if top 0 old ⌝ }
+// The slots of n nodes one sheet lower. Below the second sheet they are moved in one piece.
+fn sink_halves(growth: &mut [u8; 10800], old: &[u8; 10800], sheet: usize, n: usize)
+    requires { ⌜ (2 * sheet ≤ n) × (n ≤ 3600) ⌝ }
+    requires { ⌜ (now growth ≡ now old) × (length (now old) ≡ 10800) ⌝ }
+    ensures { λ _. ⌜ now (growth .exit) ≡ over (3 * n) (fallen sheet 0 (now (old .entry))) (now (old .entry)) ⌝ }
 {
-    if top {
-        return 0;
+    let mut e: usize = 0;
+    while e < 3 * sheet {
+        growth[e] = 0;
+        e += 1;
     }
-    old
+    while e < 6 * sheet {
+        let a = e - 3 * sheet;
+        growth[e] = old[a];
+        growth[e + 1] = old[a + 1];
+        growth[e + 2] = 0;
+        e += 3;
+    }
+    while e < 3 * n {
+        growth[e] = old[e - 3 * sheet];
+        e += 1;
+    }
 }
 
-fn fallen_bit(top: bool, old: bool) -> bool
-    ensures { λ r. ⌜ r ≡ if top false old ⌝ }
+fn sink_bits(correction: &mut [bool; 10800], old: &[bool; 10800], sheet: usize, n: usize)
+    requires { ⌜ (2 * sheet ≤ n) × (n ≤ 3600) ⌝ }
+    requires { ⌜ (now correction ≡ now old) × (length (now old) ≡ 10800) ⌝ }
+    ensures { λ _. ⌜ now (correction .exit) ≡ over (3 * n) (fallen sheet false (now (old .entry))) (now (old .entry)) ⌝ }
 {
-    if top {
-        return false;
+    let mut f: usize = 0;
+    while f < 3 * sheet {
+        correction[f] = false;
+        f += 1;
     }
-    old
-}
-
-fn fallen_node(shape: Shape, place: Place, g: usize, sheet: usize, bytes: &[u8], old: Node) -> Node
-    requires { ⌜ Stands (shape .height) (shape .distance) place g ⌝ }
-    requires { ⌜ length (now bytes) ≡ detectorsOf (shape .height) (shape .distance) ⌝ }
-    ensures { λ r. ⌜ r ≡ if (ltb g sheet) (received (shape .height) (shape .distance) (now (bytes .entry)) place) (sunk (shape .height) (shape .distance) old) ⌝ }
-{
-    if g < sheet {
-        return receive(shape, place, g, bytes);
+    while f < 6 * sheet {
+        let a = f - 3 * sheet;
+        correction[f] = old[a];
+        correction[f + 1] = old[a + 1];
+        correction[f + 2] = false;
+        f += 3;
     }
-    sink_node(shape, old)
+    while f < 3 * n {
+        correction[f] = old[f - 3 * sheet];
+        f += 1;
+    }
 }
 
 // The window one sheet lower, with a new top sheet.
@@ -207,38 +223,34 @@ pub fn sink(w: Window, bytes: &[u8]) -> Window
 {
     let shape = w.shape;
     let n = shape::nodes(shape);
-    let sheet = shape.height as usize * (shape.distance as usize + 1);
-    let mut nodes = w.nodes;
-    let mut growth = w.growth;
-    let mut correction = w.correction;
-    let mut place = Place {
-        depth: 0,
-        row: 0,
-        column: 0,
-    };
-    let mut g: usize = 0;
-    while g < n {
-        let a = above(g, sheet);
-        nodes[g] = fallen_node(shape, place, g, sheet, bytes, w.nodes[a]);
-        let top = place.depth == 0;
-        let under = place.depth <= 1;
-        let e = 3 * g;
-        let f = 3 * a;
-        growth[e] = fallen_halves(top, w.growth[f]);
-        growth[e + 1] = fallen_halves(top, w.growth[f + 1]);
-        growth[e + 2] = fallen_halves(under, w.growth[f + 2]);
-        correction[e] = fallen_bit(top, w.correction[f]);
-        correction[e + 1] = fallen_bit(top, w.correction[f + 1]);
-        correction[e + 2] = fallen_bit(under, w.correction[f + 2]);
-        place = walk::next_place(shape, place);
-        g += 1;
-    }
-    Window {
+    let sheet = sheet_nodes(shape);
+    let nodes = w.nodes;
+    let growth = w.growth;
+    let correction = w.correction;
+    let mut v = Window {
         shape,
         stage: Stage::ToGrow,
         next: w.next + 1,
         nodes,
         growth,
         correction,
+    };
+    let mut place = Place {
+        depth: 0,
+        row: 0,
+        column: 0,
+    };
+    let mut g: usize = 0;
+    while g < sheet {
+        v.nodes[g] = receive(shape, place, g, bytes);
+        place = walk::next_place(shape, place);
+        g += 1;
     }
+    while g < n {
+        v.nodes[g] = sink_node(shape, w.nodes[g - sheet]);
+        g += 1;
+    }
+    sink_halves(&mut v.growth, &w.growth, sheet, n);
+    sink_bits(&mut v.correction, &w.correction, sheet, n);
+    v
 }

@@ -1,70 +1,136 @@
 -- THE DECODING of an input stream into a result stream. Assumes nothing.
-use Prim.Native.Nat.{ℕ, zero, suc}
-use mathlib.Core.Bool.{true, false}
-use mathlib.Core.List.{List, [], _++_}
+use Prim.Native.Nat.{ℕ, zero, suc, _+_, _-_}
+use mathlib.Core.Bool.{Bool}
+use mathlib.Core.List.{List, [], _∷_, _++_}
+use lib.Dec.{ltb, leb, eqb}
 use lib.ListN.{length, replicate}
-use Rattle.refusal.specs.Answer.{done, ended, refused, refusedAt}
+use Rattle.refusal.specs.Answer.{Answer, done, ended, refused, refusedAt, unless, andThen, Code, plain, placed}
+use Rattle.shape.specs.Choice.{if}
 use Rattle.shape.specs.Sizes.{detectorsOf, layerEdgesOf}
 use Rattle.shape.specs.Steps.{Table}
-use Rattle.stream.specs.Records.{header, headerAt, roundAt, result}
+use Rattle.stream.specs.Records.{header, headerAt, roundAt, Result, result}
+use Rattle.window.specs.Window.{isRest}
 use Rattle.window.specs.Fresh.{freshWindow}
+use Rattle.window.specs.Formed.{wellFormed}
+use Rattle.window.specs.Round.{rounded, committed, escaped}
+use Rattle.window.specs.Run.{ran}
 use Rattle.window.specs.Calls.{roundCall, runCall}
 use Rattle.window.specs.declared.Window.{Window}
 
--- how it ends: at the stream's end, with a refusal's number, or with a round that is spent
+-- how it ends: at the stream's end, with a refusal, or with a round that is spent
 pub data Line : Type 0 where
   finished : Line
-  turnedBack : ℕ → Line
+  turnedBack : Code → Line
   spent : Line
+
+-- merging steps a round
+abbrev pub budget : ℕ
+budget = 65536
+
+-- ONE RECORD
+
+-- a round of the stream, received and run: the window after it, its round of the result, and whether it came to rest
+pub record Turn : Type 0 where
+  pub window : Window
+  pub result : Result
+  pub rest : Bool
+
+-- the same, of the bytes of a round and a window that no call refuses
+abbrev pub turnOf : Table → Window → List ℕ → Turn
+turnOf T w bytes =
+    let v = ran T budget (rounded T w bytes) in
+    record { window = v .window; result = record { edges = committed T w; escapes = escaped w; steps = v .count }; rest = v .rest }
+
+-- a record's bytes, the window after it, and the offset behind the round; or how the decoding ends
+pub data Recorded : Type 0 where
+  wrote : (bytes : List ℕ) → Window → (next : ℕ) → Recorded
+  stopped : Line → Recorded
+
+-- 11: the record is longer than the rest of the buffer
+abbrev pub written : ℕ → List ℕ → Window → ℕ → Recorded
+written room bytes w next = if (leb (length bytes) room) (wrote bytes w next) (stopped (turnedBack (plain 11)))
+
+-- a round that came to rest is written, any other is spent
+abbrev pub recorded : ℕ → Answer Turn → Recorded
+recorded room ended = stopped finished
+recorded room (refused e) = stopped (turnedBack (plain e))
+recorded room (refusedAt e o) = stopped (turnedBack (placed e o))
+recorded room (done t next) = if (t .rest) (written room (result (t .result)) (t .window) next) (stopped spent)
+
+module _ (T : Table) (s : List ℕ) where
+  -- a round is read at an offset, received and run
+  unfoldable pub turnAt : Window → ℕ → Answer Turn
+  turnAt w at =
+      let detectors = detectorsOf (w .shape .height) (w .shape .distance) in
+      let edges = layerEdgesOf (w .shape .height) (w .shape .distance) in
+      andThen (roundAt s detectors at) (λ bytes next.
+      andThen (roundCall T w bytes (replicate {A = ℕ} edges 0) (replicate {A = ℕ} detectors 0)) (λ r z.
+      andThen (runCall T (r .window) budget) (λ ran z.
+      done (record { window = ran .window; result = record { edges = r .edges; escapes = r .escapes; steps = ran .count }; rest = ran .rest }) next)))
+
+  -- 21, 22, 23, 10: the window, and the offsets in both slices
+  abbrev pub recordTests : ℕ → Window → ℕ → ℕ → List (Bool × ℕ)
+  recordTests size w at to =
+      (wellFormed T w, 21)
+      ∷ (isRest (w .stage), 22)
+      ∷ (ltb (w .next) 4294967295, 23)
+      ∷ (leb at (length s), 10)
+      ∷ (leb to size, 10)
+      ∷ []
+
+  -- the record of the round at an offset, for a buffer of so many bytes from an offset on; no bytes left is the end, whatever else
+  unfoldable pub recordAt : ℕ → Window → ℕ → ℕ → Recorded
+  recordAt size w at to =
+      if (eqb at (length s)) (stopped finished) (recorded (size - to) (unless (recordTests size w at to) (turnAt w at)))
+
+-- ROUND AFTER ROUND
+
+-- the records' bytes as far as they go, how it ends, and with which window and at which offset
+pub record Rounds : Type 0 where
+  pub output : List ℕ
+  pub line : Line
+  pub window : Window
+  pub next : ℕ
+
+abbrev pub stop : Line → Window → ℕ → Rounds
+stop l w at = record { output = []; line = l; window = w; next = at }
+
+abbrev pub after : List ℕ → Rounds → Rounds
+after bytes r = record { output = bytes ++ r .output; line = r .line; window = r .window; next = r .next }
+
+module _ (T : Table) (s : List ℕ) (size : ℕ) where
+  -- the rounds from an offset on, n at most, for a buffer of size bytes
+  unfoldable pub roundsFrom : ℕ → Window → ℕ → ℕ → Rounds
+  roundsFrom zero w at to = stop finished w at
+  roundsFrom (suc n) w at to =
+      elim (recordAt T s size w at to) [
+        | wrote bytes v next ↦ after bytes (roundsFrom n v next (to + length bytes))
+        | stopped l ↦ stop l w at
+      ]
+
+  -- all of them: each has a byte at least
+  abbrev pub rounds : Window → ℕ → ℕ → Rounds
+  rounds w at to = roundsFrom (length s + 1) w at to
+
+-- THE WHOLE STREAM
 
 -- the result stream as far as it goes, and how it ends
 pub record Decoded : Type 0 where
   pub output : List ℕ
   pub line : Line
 
-abbrev pub stop : Line → Decoded
-stop l = record { output = []; line = l }
+abbrev pub nothing : Code → Decoded
+nothing c = record { output = []; line = turnedBack c }
 
-abbrev pub after : List ℕ → Decoded → Decoded
-after bytes r = record { output = bytes ++ r .output; line = r .line }
+abbrev pub behind : List ℕ → Rounds → Decoded
+behind bytes r = record { output = bytes ++ r .output; line = r .line }
 
--- merging steps a round
-abbrev pub budget : ℕ
-budget = 65536
-
-module _ (T : Table) (s : List ℕ) where
-  -- the rounds from an offset on: one is read, received, run to rest and written; each has a byte at least, so n is no bound where s has n bytes
-  unfoldable pub roundsFrom : ℕ → Window → ℕ → Decoded
-  roundsFrom zero w at = stop finished
-  roundsFrom (suc n) w at =
-      let detectors = detectorsOf (w .shape .height) (w .shape .distance) in
-      let edges = layerEdgesOf (w .shape .height) (w .shape .distance) in
-      elim (roundAt s detectors at) [
-        | ended ↦ stop finished
-        | refused e ↦ stop (turnedBack e)
-        | refusedAt e o ↦ stop (turnedBack e)
-        | done bytes next ↦ elim (roundCall T w bytes (replicate {A = ℕ} edges 0) (replicate {A = ℕ} detectors 0)) [
-          | ended ↦ stop finished
-          | refused e ↦ stop (turnedBack e)
-          | refusedAt e o ↦ stop (turnedBack e)
-          | done r z ↦ elim (runCall T (r .window) budget) [
-            | ended ↦ stop finished
-            | refused e ↦ stop (turnedBack e)
-            | refusedAt e o ↦ stop (turnedBack e)
-            | done ran z ↦ elim (ran .rest) [
-              | true ↦ after (result (record { edges = r .edges; escapes = r .escapes; steps = ran .count })) (roundsFrom n (ran .window) next)
-              | false ↦ stop spent
-            ]
-          ]
-        ]
-      ]
-
-  -- the header, then the rounds
-  unfoldable pub decoded : Decoded
-  decoded =
-      elim (headerAt s 0) [
-        | ended ↦ stop finished
-        | refused e ↦ stop (turnedBack e)
-        | refusedAt e o ↦ stop (turnedBack e)
-        | done sh next ↦ after (header sh) (roundsFrom (length s) (freshWindow sh) next)
-      ]
+-- the header, then the rounds
+unfoldable pub decoded : Table → List ℕ → ℕ → Decoded
+decoded T s size =
+    elim (headerAt s 0) [
+      | ended ↦ nothing (placed 7 0)
+      | refused e ↦ nothing (plain e)
+      | refusedAt e o ↦ nothing (placed e o)
+      | done sh next ↦ if (leb (length (header sh)) size) (behind (header sh) (rounds T s size (freshWindow sh) next (length (header sh)))) (nothing (plain 11))
+    ]

@@ -1,2 +1,8 @@
 pub mod Decoding
+pub mod Answers
+pub mod LawsTests
+pub mod LawsTurn
+pub mod LawsDecoding
 pub mod Printed
+pub mod Resumed
+pub mod Lengths

@@ -21,25 +21,29 @@ use Rattle.window.specs.Merging as merging
 use Rattle.window.specs.Run as run
 use Rattle.window.specs.Calls as calls
 use Rattle.window.specs.declared.Window.{Window}
-use Rattle.session.specs.Decoding.{Decoded, finished, decoded, roundsFrom}
+use Rattle.session.specs.Decoding.{Decoded, finished, decoded, roundsFrom, recordAt, turnAt}
 
 -- all the rules, for `unfolding`
 unfoldable opened : ℕ
-unfolding list.ones list.skips list.listed list.entriesAt list.listAt list.areBits number.written number.numberAt number.groups number.groupAt nodes.indexOf nodes.placeAt nodes.numberOf nodes.placeOf steps.base steps.across steps.joined steps.near steps.slot layer.edgeOf records.header records.headerFrom records.headerAt records.result lists.from lists.byPlace lists.every lists.any lists.all window.reach window.naming fresh.freshWindow formed.pointerFits formed.nodeFits formed.slotFitsAt formed.wellFormed round.committed round.escaped round.loweredNumber round.received round.fallenNode round.fallenSlot round.rounded grow.grownSlot grow.grownNode grow.grown merging.sees merging.syncedActive merging.arrivals merging.scan merging.floods merging.stepped merging.seen merging.stepAt merging.flippedSlot merging.merged run.stepsFrom run.ran calls.roundCall calls.runCall roundsFrom decoded
+unfolding list.ones list.skips list.listed list.entriesAt list.listAt list.areBits number.written number.numberAt number.groups number.groupAt nodes.indexOf nodes.placeAt nodes.numberOf nodes.placeOf steps.base steps.across steps.joined steps.near steps.slot layer.edgeOf records.header records.headerFrom records.headerAt records.result lists.from lists.byPlace lists.every lists.any lists.all window.reach window.naming fresh.freshWindow formed.pointerFits formed.nodeFits formed.slotFitsAt formed.wellFormed round.committed round.escaped round.loweredNumber round.received round.fallenNode round.fallenSlot round.rounded grow.grownSlot grow.grownNode grow.grown merging.sees merging.syncedActive merging.arrivals merging.scan merging.floods merging.stepped merging.seen merging.stepAt merging.flippedSlot merging.merged run.stepsFrom run.ran calls.roundCall calls.runCall turnAt recordAt roundsFrom decoded
 opened = 0
+
+-- into a buffer with room enough
+abbrev room : ℕ
+room = 65536
 
 abbrev pub gives : List ℕ → Decoded
 gives bytes = record { output = bytes; line = finished }
 
 pub record Printed : Type 0 where
   -- 1 by 3, a defect at detector 0, three empty rounds: the fourth commits edge 0
-  pub first : decoded base (0x01 ∷ 0x03 ∷ 0x01 ∷ 0x00 ∷ 0x00 ∷ 0x00 ∷ 0x00 ∷ [])
+  pub first : decoded base (0x01 ∷ 0x03 ∷ 0x01 ∷ 0x00 ∷ 0x00 ∷ 0x00 ∷ 0x00 ∷ []) room
       ≡ gives (0x01 ∷ 0x03 ∷ 0x00 ∷ 0x00 ∷ 0x02 ∷ 0x00 ∷ 0x00 ∷ 0x01 ∷ 0x00 ∷ 0x00 ∷ 0x04 ∷ 0x01 ∷ 0x00 ∷ 0x00 ∷ 0x02 ∷ [])
   -- both detectors
-  pub second : decoded base (0x01 ∷ 0x03 ∷ 0x02 ∷ 0x00 ∷ 0x00 ∷ 0x00 ∷ 0x00 ∷ 0x00 ∷ [])
+  pub second : decoded base (0x01 ∷ 0x03 ∷ 0x02 ∷ 0x00 ∷ 0x00 ∷ 0x00 ∷ 0x00 ∷ 0x00 ∷ []) room
       ≡ gives (0x01 ∷ 0x03 ∷ 0x00 ∷ 0x00 ∷ 0x02 ∷ 0x00 ∷ 0x00 ∷ 0x05 ∷ 0x00 ∷ 0x00 ∷ 0x01 ∷ 0x01 ∷ 0x01 ∷ 0x00 ∷ 0x01 ∷ [])
   -- 1 by 2, one defect: west and east tie, west (edge 0) is committed
-  pub tie : decoded base (0x01 ∷ 0x02 ∷ 0x01 ∷ 0x00 ∷ 0x00 ∷ 0x00 ∷ 0x00 ∷ [])
+  pub tie : decoded base (0x01 ∷ 0x02 ∷ 0x01 ∷ 0x00 ∷ 0x00 ∷ 0x00 ∷ 0x00 ∷ []) room
       ≡ gives (0x01 ∷ 0x02 ∷ 0x00 ∷ 0x00 ∷ 0x02 ∷ 0x00 ∷ 0x00 ∷ 0x01 ∷ 0x00 ∷ 0x00 ∷ 0x03 ∷ 0x01 ∷ 0x00 ∷ 0x00 ∷ 0x02 ∷ [])
   -- the lines of shapes, numbers and refused headers
   pub streams : stream.Printed

@@ -14,7 +14,8 @@ use Rattle.window.specs.Formed.{wellFormed}
 use Rattle.window.specs.Round.{rounded, committed, escaped}
 use Rattle.window.specs.Grow.{grown}
 use Rattle.window.specs.Merging.{merged}
-use Rattle.window.specs.Run.{Ran, ran}
+use Rattle.window.specs.Run.{ran}
+use Rattle.window.specs.declared.Ran.{Ran}
 use Rattle.window.specs.declared.Window.{Window}
 use Rattle.window.specs.declared.Called.{Called}
 use Rattle.window.specs.declared.Called.the-variants as called

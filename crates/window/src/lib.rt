@@ -67,6 +67,13 @@ pub struct Stepped {
     pub busy: bool,
 }
 
+// How a run ended: at rest or not, and the count of steps made.
+pub struct Ran {
+    pub window: Window,
+    pub rest: bool,
+    pub count: u32,
+}
+
 // How a call ended.
 pub enum Called {
     Done,

@@ -1,5 +1,5 @@
+-- `calls::fresh` meets its contract. Assumes nothing.
 use mathlib.Core.Path.{_∙_, ap}
-use Prim.Native.Nat.{_-_}
 use borrow.Author.Needs.{needs}
 use Rattle.calls.proofs.fresh.Statement.{statement}
 use Rattle.calls.proofs.fresh.Tie as tie
@@ -8,31 +8,24 @@ use Rattle.window.specs.Calls.{given}
 use Rattle.window.specs.declared.Window.{Window}
 use Rattle.calls.proofs.Opened.{shape-ranged, fresh-refused, fresh-done}
 
--- src/lib.rt:80:9
 shape-of-requires : tie.Need-shape-of-requires
 shape-of-requires c κs = search needs
 
--- src/lib.rt:82:25
 enum-known-shaped : tie.Need-enum-known-shaped
 enum-known-shaped c = search needs
 
--- src/lib.rt:84:21
 no-window-requires : tie.Need-no-window-requires
 no-window-requires c κs = search needs
 
--- src/lib.rt:86:23
 enum-known-shaped-2 : tie.Need-enum-known-shaped-2
 enum-known-shaped-2 c = search needs
 
--- src/lib.rt:88:21
 fresh-window-requires : tie.Need-fresh-window-requires
 fresh-window-requires c κs = shape-ranged (c .before .before .before .before .args .height) (c .before .before .before .before .args .distance) (c .before .before .before .shape-of .result) (c .before .before .before .shape-of .ensures) (c .before .shaped2 .given .0 .0) (c .before .shaped2 .given .1)
 
--- src/lib.rt:77:1
 returns : tie.Need-returns
 returns c = ap (λ (x : Window). given (turned (c .before .before .shaped .given .0 .0)) x) (c .no-window .ensures) ∙ fresh-refused (c .before .before .before .before .before .args .height) (c .before .before .before .before .before .args .distance) (c .before .before .before .before .shape-of .result) (c .before .before .before .before .shape-of .ensures) (c .before .before .shaped .given .0 .0) (c .before .before .shaped .given .1)
 
--- src/lib.rt:77:1
 returns-2 : tie.Need-returns-2
 returns-2 c = fresh-done (c .before .before .before .before .before .args .height) (c .before .before .before .before .before .args .distance) (c .before .before .before .before .shape-of .result) (c .before .before .before .before .shape-of .ensures) (c .before .before .shaped2 .given .0 .0) (c .fresh-window .result) (c .before .before .shaped2 .given .1) (c .fresh-window .ensures)
 

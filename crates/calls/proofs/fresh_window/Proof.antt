@@ -1,3 +1,4 @@
+-- `calls::fresh_window` meets its contract. Assumes nothing.
 use mathlib.Core.Path.{_≡_, sym, _∙_, ap, subst}
 use Prim.Native.Nat.{ℕ, _≤_, _<_, _-_, _+_}
 use native.Mathlib.Omega.{arith}
@@ -36,47 +37,36 @@ turn g n l = omega arith
 long : (n g : ℕ) → g < n → g < length (replicate n unused)
 long n g l = subst (λ (m : ℕ). g < m) (sym (length-replicate n unused)) l
 
--- src/lib.rt:53:9
 nodes-requires : tie.Need-nodes-requires Inv-loop μ-loop
 nodes-requires c κs = search needs
 
--- src/lib.rt:54:22
 alone-requires : tie.Need-alone-requires Inv-loop μ-loop
 alone-requires c κs = search needs
 
--- src/lib.rt:61:5
 loop-holds : tie.Need-loop-holds Inv-loop μ-loop
 loop-holds c = (omega arith, first-place (c .before .before .args .shape .height) (c .before .before .args .shape .distance), ap (λ (x : Node). replicate 3600 x) (c .alone .ensures) ∙ sym (over-none (numbering (c .before .before .args .shape)) (replicate 3600 unused)))
 
--- src/lib.rt:62:34
 number-requires : tie.Need-number-requires Inv-loop μ-loop
 number-requires c κs = here c
 
--- src/lib.rt:62:20
 alone-requires-2 : tie.Need-alone-requires-2 Inv-loop μ-loop
 alone-requires-2 c κs = search needs
 
--- src/lib.rt:62:9
 mul-nodes : tie.Need-mul-nodes Inv-loop μ-loop
 mul-nodes c = omega (arith, low (c .before .before))
 
--- src/lib.rt:62:9
 array-set-from-nodes : tie.Need-array-set-from-nodes Inv-loop μ-loop
 array-set-from-nodes c = omega (arith, low (c .before .before))
 
--- src/lib.rt:63:9
 next-place-requires : tie.Need-next-place-requires Inv-loop μ-loop
 next-place-requires c κs = omega (arith, depth-low _ _ _ _ (here (c .before .before)))
 
--- src/lib.rt:64:9
 add-g : tie.Need-add-g Inv-loop μ-loop
 add-g c = omega (arith, low (c .before .before .before))
 
--- src/lib.rt:61:5
 loop-less : tie.Need-loop-less Inv-loop μ-loop
 loop-less c = search needs
 
--- src/lib.rt:61:5
 loop-again : tie.Need-loop-again Inv-loop μ-loop
 loop-again c = let l = c .before .before .before .before .loop in (
   turn _ _ (c .before .before .before .loop-test .taken),
@@ -85,15 +75,12 @@ loop-again c = let l = c .before .before .before .before .loop in (
       (numbered-by (c .before .before .before .before .before .before .before .args .shape) (l .g) (c .before .before .number .result) (l .place) (c .before .alone2 .result) (l .inv .1 (here (c .before .before .before) .ranged .h1)) (c .before .before .number .ensures) (c .before .alone2 .ensures)),
 )
 
--- src/lib.rt:69:15
 sheets-requires : tie.Need-sheets-requires Inv-loop μ-loop
 sheets-requires c κs = search needs
 
--- src/lib.rt:69:15
 cast-t15 : tie.Need-cast-t15 Inv-loop μ-loop
 cast-t15 c = omega (arith, c .sheets .ensures, sheets-le (c .before .before .before .before .before .args .shape .distance) (ranged (c .before .before .before .before .before .args .shape .height) (c .before .before .before .before .before .args .shape .distance) (c .before .before .before .before .before .pre) .d15))
 
--- src/lib.rt:49:1
 returns : tie.Need-returns Inv-loop μ-loop
 returns c = let z : c .before .before .loop .g ≡ nodesOf (c .before .before .before .before .before .args .shape .height) (c .before .before .before .before .before .args .shape .distance) = omega (arith, c .before .loop-test .left, c .before .before .loop .inv .0, c .before .before .before .before .nodes .ensures) in
     fresh-by (c .before .before .before .before .before .args .shape) (c .before .before .loop .g) _ (c .before .before .loop .nodes) z (c .sheets .ensures) (c .before .before .loop .inv .2)

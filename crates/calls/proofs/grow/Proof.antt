@@ -1,33 +1,27 @@
-use Prim.Native.Nat.{_-_}
+-- `calls::grow` meets its contract. Assumes nothing.
 use borrow.Author.Needs.{needs}
 use Rattle.calls.proofs.grow.Statement.{statement}
 use Rattle.calls.proofs.grow.Tie as tie
 use Rattle.calls.proofs.Leaves.{grow-refused, grow-done}
 
--- src/lib.rt:157:32
 is-to-grow-requires : tie.Need-is-to-grow-requires
 is-to-grow-requires c κs = search needs
 
--- src/lib.rt:157:9
 test-state-requires : tie.Need-test-state-requires
 test-state-requires c κs = search needs
 
--- src/lib.rt:158:28
 enum-known-tested : tie.Need-enum-known-tested
 enum-known-tested c = search needs
 
--- src/lib.rt:159:9
 returns : tie.Need-returns
 returns c = grow-refused (c .before .before .before .before .before .args .w) (c .before .before .before .before .is-to-grow .result) (c .before .before .before .before .is-to-grow .ensures) (c .before .before .before .test-state .result) (c .before .before .before .test-state .ensures) (c .before .tested .given .0 .0) (c .before .tested .given .1)
 
 enum-told : tie.Need-enum-told
 enum-told c = search needs
 
--- src/lib.rt:166:17
 grow-requires : tie.Need-grow-requires
 grow-requires c κs = search needs
 
--- src/lib.rt:153:1
 returns-2 : tie.Need-returns-2
 returns-2 c = grow-done (c .before .before .before .before .before .args .w) (c .before .before .before .before .is-to-grow .result) (c .before .before .before .before .is-to-grow .ensures) (c .before .before .before .test-state .result) (c .before .before .before .test-state .ensures) (c .grow .result) (c .before .enum-told .given .1) (c .grow .ensures)
 

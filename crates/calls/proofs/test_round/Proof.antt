@@ -1,5 +1,5 @@
+-- `calls::test_round` meets its contract. Assumes nothing.
 use mathlib.Core.Path.{sym, _∙_}
-use Prim.Native.Nat.{_-_}
 use native.Mathlib.Omega.{arith}
 use borrow.Author.Needs.{needs}
 use borrow.Author.Tests.{not-true, not-false}
@@ -9,58 +9,45 @@ use Rattle.calls.proofs.Leaves.{state-fine}
 use Rattle.window.specs.Window.{isRest}
 use Rattle.calls.proofs.Rounds.{early-by, same-by, other-by, turned-state, turned-23, turned-3, turned-5, turned-6, turned-4, all-passed}
 
--- src/lib.rt:110:32
 is-rest-requires : tie.Need-is-rest-requires
 is-rest-requires c κs = search needs
 
--- src/lib.rt:110:9
 test-state-requires : tie.Need-test-state-requires
 test-state-requires c κs = search needs
 
--- src/lib.rt:111:28
 enum-known-tested : tie.Need-enum-known-tested
 enum-known-tested c = search needs
 
--- src/lib.rt:112:9
 returns : tie.Need-returns
 returns c = turned-state (c .before .before .before .before .before .before .args .w) (c .before .before .before .before .before .before .args .bytes .now) (c .before .before .before .before .before .before .args .edges) (c .before .before .before .before .before .before .args .escapes) (c .before .before .before .before .is-rest .result) (c .before .before .before .before .is-rest .ensures) (c .before .before .before .test-state .result) (c .before .before .before .test-state .ensures) (c .before .tested .given .0 .0) (c .before .tested .given .1)
 
 enum-told : tie.Need-enum-told
 enum-told c = search needs
 
--- src/lib.rt:115:9
 returns-2 : tie.Need-returns-2
 returns-2 c = turned-23 (c .before .before .before .before .before .before .before .args .w) (c .before .before .before .before .before .before .before .args .bytes .now) (c .before .before .before .before .before .before .before .args .edges) (c .before .before .before .before .before .before .before .args .escapes) (state-fine (c .before .before .before .before .before .before .before .args .w) (c .before .before .before .before .before .is-rest .result) (isRest (c .before .before .before .before .before .before .before .args .w .stage)) (c .before .before .before .before .before .is-rest .ensures) (c .before .before .before .before .test-state .result) (c .before .before .before .before .test-state .ensures) (c .before .before .enum-told .given .1)) (c .if1 .taken)
 
--- src/lib.rt:117:9
 detectors-requires : tie.Need-detectors-requires
 detectors-requires c κs = search needs
 
--- src/lib.rt:119:9
 returns-3 : tie.Need-returns-3
 returns-3 c = turned-3 (c .before .before .before .before .before .before .before .before .before .args .w) (c .before .before .before .before .before .before .before .before .before .args .bytes .now) (c .before .before .before .before .before .before .before .before .before .args .edges) (c .before .before .before .before .before .before .before .before .before .args .escapes) (state-fine (c .before .before .before .before .before .before .before .before .before .args .w) (c .before .before .before .before .before .before .before .is-rest .result) (isRest (c .before .before .before .before .before .before .before .before .before .args .w .stage)) (c .before .before .before .before .before .before .before .is-rest .ensures) (c .before .before .before .before .before .before .test-state .result) (c .before .before .before .before .before .before .test-state .ensures) (c .before .before .before .before .enum-told .given .1)) (early-by _ (omega (arith, c .before .before .before .struct-known .given)) (c .before .before .if1 .left)) (other-by _ _ _ (c .before .detectors .ensures) (c .if2 .taken))
 
--- src/lib.rt:121:17
 layer-edges-requires : tie.Need-layer-edges-requires
 layer-edges-requires c κs = search needs
 
--- src/lib.rt:122:9
 returns-4 : tie.Need-returns-4
 returns-4 c = turned-5 (c .before .before .before .before .before .before .before .before .before .before .before .args .w) (c .before .before .before .before .before .before .before .before .before .before .before .args .bytes .now) (c .before .before .before .before .before .before .before .before .before .before .before .args .edges) (c .before .before .before .before .before .before .before .before .before .before .before .args .escapes) (state-fine (c .before .before .before .before .before .before .before .before .before .before .before .args .w) (c .before .before .before .before .before .before .before .before .before .is-rest .result) (isRest (c .before .before .before .before .before .before .before .before .before .before .before .args .w .stage)) (c .before .before .before .before .before .before .before .before .before .is-rest .ensures) (c .before .before .before .before .before .before .before .before .test-state .result) (c .before .before .before .before .before .before .before .before .test-state .ensures) (c .before .before .before .before .before .before .enum-told .given .1)) (early-by _ (omega (arith, c .before .before .before .before .before .struct-known .given)) (c .before .before .before .before .if1 .left)) (same-by _ _ _ (c .before .before .before .detectors .ensures) (c .before .before .if2 .left)) (other-by _ _ _ (c .before .layer-edges .ensures) (c .if3 .taken))
 
--- src/lib.rt:125:9
 returns-5 : tie.Need-returns-5
 returns-5 c = turned-6 (c .before .before .before .before .before .before .before .before .before .before .before .before .args .w) (c .before .before .before .before .before .before .before .before .before .before .before .before .args .bytes .now) (c .before .before .before .before .before .before .before .before .before .before .before .before .args .edges) (c .before .before .before .before .before .before .before .before .before .before .before .before .args .escapes) (state-fine (c .before .before .before .before .before .before .before .before .before .before .before .before .args .w) (c .before .before .before .before .before .before .before .before .before .before .is-rest .result) (isRest (c .before .before .before .before .before .before .before .before .before .before .before .before .args .w .stage)) (c .before .before .before .before .before .before .before .before .before .before .is-rest .ensures) (c .before .before .before .before .before .before .before .before .before .test-state .result) (c .before .before .before .before .before .before .before .before .before .test-state .ensures) (c .before .before .before .before .before .before .before .enum-told .given .1)) (early-by _ (omega (arith, c .before .before .before .before .before .before .struct-known .given)) (c .before .before .before .before .before .if1 .left)) (same-by _ _ _ (c .before .before .before .before .detectors .ensures) (c .before .before .before .if2 .left)) (same-by _ _ _ (c .before .before .layer-edges .ensures) (c .before .if3 .left)) (other-by _ _ _ (c .before .before .before .before .detectors .ensures) (c .if4 .taken))
 
--- src/lib.rt:127:9
 are-bits-requires : tie.Need-are-bits-requires
 are-bits-requires c κs = search needs
 
--- src/lib.rt:128:9
 returns-6 : tie.Need-returns-6
 returns-6 c = turned-4 (c .before .before .before .before .before .before .before .before .before .before .before .before .before .before .args .w) (c .before .before .before .before .before .before .before .before .before .before .before .before .before .before .args .bytes .now) (c .before .before .before .before .before .before .before .before .before .before .before .before .before .before .args .edges) (c .before .before .before .before .before .before .before .before .before .before .before .before .before .before .args .escapes) (state-fine (c .before .before .before .before .before .before .before .before .before .before .before .before .before .before .args .w) (c .before .before .before .before .before .before .before .before .before .before .before .before .is-rest .result) (isRest (c .before .before .before .before .before .before .before .before .before .before .before .before .before .before .args .w .stage)) (c .before .before .before .before .before .before .before .before .before .before .before .before .is-rest .ensures) (c .before .before .before .before .before .before .before .before .before .before .before .test-state .result) (c .before .before .before .before .before .before .before .before .before .before .before .test-state .ensures) (c .before .before .before .before .before .before .before .before .before .enum-told .given .1)) (early-by _ (omega (arith, c .before .before .before .before .before .before .before .before .struct-known .given)) (c .before .before .before .before .before .before .before .if1 .left)) (same-by _ _ _ (c .before .before .before .before .before .before .detectors .ensures) (c .before .before .before .before .before .if2 .left)) (same-by _ _ _ (c .before .before .before .before .layer-edges .ensures) (c .before .before .before .if3 .left)) (same-by _ _ _ (c .before .before .before .before .before .before .detectors .ensures) (c .before .before .if4 .left)) (sym (c .before .are-bits .ensures) ∙ not-true _ (c .if5 .taken))
 
--- src/lib.rt:106:1
 returns-7 : tie.Need-returns-7
 returns-7 c = all-passed (c .before .before .before .before .before .before .before .before .before .before .before .before .before .before .args .w) (c .before .before .before .before .before .before .before .before .before .before .before .before .before .before .args .bytes .now) (c .before .before .before .before .before .before .before .before .before .before .before .before .before .before .args .edges) (c .before .before .before .before .before .before .before .before .before .before .before .before .before .before .args .escapes) (state-fine (c .before .before .before .before .before .before .before .before .before .before .before .before .before .before .args .w) (c .before .before .before .before .before .before .before .before .before .before .before .before .is-rest .result) (isRest (c .before .before .before .before .before .before .before .before .before .before .before .before .before .before .args .w .stage)) (c .before .before .before .before .before .before .before .before .before .before .before .before .is-rest .ensures) (c .before .before .before .before .before .before .before .before .before .before .before .test-state .result) (c .before .before .before .before .before .before .before .before .before .before .before .test-state .ensures) (c .before .before .before .before .before .before .before .before .before .enum-told .given .1)) (early-by _ (omega (arith, c .before .before .before .before .before .before .before .before .struct-known .given)) (c .before .before .before .before .before .before .before .if1 .left)) (same-by _ _ _ (c .before .before .before .before .before .before .detectors .ensures) (c .before .before .before .before .before .if2 .left)) (same-by _ _ _ (c .before .before .before .before .layer-edges .ensures) (c .before .before .before .if3 .left)) (same-by _ _ _ (c .before .before .before .before .before .before .detectors .ensures) (c .before .before .if4 .left)) (sym (c .before .are-bits .ensures) ∙ not-false _ (c .if5 .left))
 

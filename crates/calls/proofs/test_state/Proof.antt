@@ -1,24 +1,20 @@
+-- `calls::test_state` meets its contract. Assumes nothing.
 use mathlib.Core.Path.{sym, _∙_}
-use Prim.Native.Nat.{_-_}
 use borrow.Author.Needs.{needs}
 use borrow.Author.Tests.{not-true, not-false}
 use Rattle.calls.proofs.test_state.Statement.{statement}
 use Rattle.calls.proofs.test_state.Tie as tie
 use Rattle.calls.proofs.Leaves.{not-formed, not-staged, both-fine}
 
--- src/lib.rt:96:9
 well-formed-requires : tie.Need-well-formed-requires
 well-formed-requires c κs = search needs
 
--- src/lib.rt:97:9
 returns : tie.Need-returns
 returns c = not-formed (c .before .before .args .w) (c .before .before .args .staged) (sym (c .before .well-formed .ensures) ∙ not-true _ (c .if1 .taken))
 
--- src/lib.rt:100:9
 returns-2 : tie.Need-returns-2
 returns-2 c = not-staged (c .before .before .before .args .w) (c .before .before .before .args .staged) (sym (c .before .before .well-formed .ensures) ∙ not-false _ (c .before .if1 .left)) (not-true _ (c .if2 .taken))
 
--- src/lib.rt:93:1
 returns-3 : tie.Need-returns-3
 returns-3 c = both-fine (c .before .before .before .args .w) (c .before .before .before .args .staged) (sym (c .before .before .well-formed .ensures) ∙ not-false _ (c .before .if1 .left)) (not-false _ (c .if2 .left))
 

@@ -1,28 +1,25 @@
 -- `formed::bits_unused` meets its contract. Assumes nothing.
-use mathlib.Core.Path.{_≡_, refl, ap}
-use mathlib.Core.Bool.{false, not}
+use mathlib.Core.Path.{_≡_, refl}
+use mathlib.Core.Bool.{false, _&&_, not}
 use Prim.Native.Nat.{_-_}
 use borrow.Author.Needs.{needs}
 use lib.ListN.{length, drop}
 use Rattle.window.specs.Lists.{all}
 use Rattle.formed.proofs.bits_unused.Statement.{statement}
 use Rattle.formed.proofs.bits_unused.Tie as tie
-use Rattle.formed.proofs.Behind.{fails, passes, ends}
+use Rattle.formed.proofs.Behind.{reads, has-read}
 
 abbrev Inv-loop : tie.InvT-loop
-Inv-loop correction n e₀ e = all not (drop e correction) ≡ all not (drop n correction)
+Inv-loop correction n unused₀ e₀ unused e = unused && all not (drop e correction) ≡ all not (drop n correction)
 
 abbrev μ-loop : tie.MeasureT-loop
-μ-loop correction n e₀ e = length correction - e
+μ-loop correction n unused₀ e₀ unused e = length correction - e
 
 loop-holds : tie.Need-loop-holds Inv-loop μ-loop
 loop-holds c = refl
 
-shared-slice-read-if1 : tie.Need-shared-slice-read-if1 Inv-loop μ-loop
-shared-slice-read-if1 c = search needs
-
-returns : tie.Need-returns Inv-loop μ-loop
-returns c = fails not (c .before .before .before .before .args .correction .now) (c .before .before .before .before .args .n) (c .before .before .before .loop .e) (c .before .before .before .loop .inv) false (c .before .before .loop-test .taken) (ap not (c .if1 .taken))
+shared-slice-read-unused : tie.Need-shared-slice-read-unused Inv-loop μ-loop
+shared-slice-read-unused c = search needs
 
 add-e : tie.Need-add-e Inv-loop μ-loop
 add-e c = search needs
@@ -31,10 +28,10 @@ loop-less : tie.Need-loop-less Inv-loop μ-loop
 loop-less c = search needs
 
 loop-again : tie.Need-loop-again Inv-loop μ-loop
-loop-again c = passes not (c .before .before .before .before .args .correction .now) (c .before .before .before .before .args .n) (c .before .before .before .loop .e) (c .before .before .before .loop .inv) false (c .before .before .loop-test .taken) (ap not (c .if1 .left))
+loop-again c = reads not (c .before .before .before .args .correction .now) (c .before .before .before .args .n) (c .before .before .loop .e) (c .before .before .loop .unused) (c .before .before .loop .inv) false (c .before .loop-test .taken)
 
-returns-2 : tie.Need-returns-2 Inv-loop μ-loop
-returns-2 c = ends not (c .before .before .args .correction .now) (c .before .before .args .n) (c .before .loop .e) (c .before .loop .inv) (c .loop-test .left)
+returns : tie.Need-returns Inv-loop μ-loop
+returns c = has-read not (c .before .before .args .correction .now) (c .before .before .args .n) (c .before .loop .e) (c .before .loop .unused) (c .before .loop .inv) (c .loop-test .left)
 
 pub bits-unused-spec : {M : Type 1} → statement M
 bits-unused-spec =
@@ -43,9 +40,8 @@ bits-unused-spec =
     Inv-loop
     μ-loop
     loop-holds
-    shared-slice-read-if1
-    returns
+    shared-slice-read-unused
     add-e
     loop-less
     loop-again
-    returns-2)
+    returns)

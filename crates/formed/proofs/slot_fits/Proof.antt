@@ -2,32 +2,20 @@
 use mathlib.Core.Path.{_≡_, refl, sym, ap}
 use mathlib.Core.Bool.{Bool, true, false, _&&_, _||_, not}
 use Prim.Native.Nat.{ℕ}
-use native.Mathlib.Omega.{arith}
 use borrow.Author.Needs.{needs}
-use borrow.Author.Tests.{le-leb, eqb-true}
 use lib.Dec.{leb}
 use Rattle.shape.specs.Sizes.{sheetsOf}
-use Rattle.shape.specs.Ranges.{halves, both}
 use Rattle.shape.specs.Steps.{base}
 use Rattle.window.specs.declared.Way.{Way}
 use Rattle.window.specs.Window.{reach}
 use Rattle.window.specs.Formed.{isEmpty, slotFits}
 use Rattle.formed.proofs.slot_fits.Statement.{statement}
 use Rattle.formed.proofs.slot_fits.Tie as tie
-
-either : (a b : Bool) → b ≡ true → a || b ≡ true
-either true b e = refl
-either false b e = e
+use Rattle.formed.proofs.Empty.{empty-fits}
 
 neither : (a b : Bool) → b ≡ false → a ≡ a || b
 neither true b e = refl
 neither false b e = sym e
-
-module _ (there : Bool) (growth : ℕ) (correction : Bool) where
-  empty-fits : isEmpty growth && not correction ≡ true → true ≡ slotFits there growth correction
-  empty-fits e =
-      let z = eqb-true growth 0 (halves (isEmpty growth) (not correction) e .0) in
-      sym (both (leb growth 2) (there || isEmpty growth && not correction) (le-leb growth 2 (omega arith)) (either there (isEmpty growth && not correction) e))
 
 full-fits : (there found : Bool) (growth : ℕ) (correction : Bool) → found ≡ there → isEmpty growth && not correction ≡ false
     → leb growth 2 && found ≡ slotFits there growth correction

@@ -55,10 +55,10 @@ module _ (w : Window) (g : ℕ) (q : Place) (e : q ≡ place w g) where
   unfolding slotFitsAt
   slot-at kind p i f k = rw (f, three-kinds, ← e, k)
 
-  slots-fit-at : (a b c : Bool) → a ≡ slotBy 3 (3 * g) → b ≡ slotBy 4 (3 * g + 1) → c ≡ slotBy 6 (3 * g + 2) → a && b && c ≡ slotsFitAt w g
+  slots-fit-at : (a : Bool) → a ≡ slotBy 3 (3 * g) && slotBy 4 (3 * g + 1) && slotBy 6 (3 * g + 2) → a ≡ slotsFitAt w g
   unfolding every
-  slots-fit-at a b c k l m =
-      rw (k ∙ slot-at 0 3 (3 * g) named-east (sym (add-zero (3 * g))), l ∙ slot-at 1 4 (3 * g + 1) named-south refl, m ∙ slot-at 2 6 (3 * g + 2) named-up refl)
+  slots-fit-at a k =
+      k ∙ rw (slot-at 0 3 (3 * g) named-east (sym (add-zero (3 * g))), slot-at 1 4 (3 * g + 1) named-south refl, slot-at 2 6 (3 * g + 2) named-up refl)
 
 -- the first g nodes and their slots have passed, and the walk stands at the next
 record Passed (w : Window) (n : ℕ) (q : Place) (g : ℕ) : Type 0 where
@@ -91,9 +91,8 @@ module _ (c : tie.In-loop Inv-loop μ-loop) where
 node-at : (c : tie.After-node-fits Inv-loop μ-loop) → c .node-fits .result ≡ nodeFitsAt base (c .before .before .before .before .before .before .before .args .t1) (c .before .before .before .loop .g)
 node-at c = node-fits-at (c .before .before .before .before .before .before .before .args .t1) (c .before .before .before .loop .g) (c .before .before .before .loop .place) (here (c .before .before)) (getD (c .before .before .before .before .before .before .before .args .t1 .nodes) (c .before .before .before .loop .g) beyond) (c .node-fits .result) refl (c .node-fits .ensures)
 
-module _ (c : tie.After-slot-fits3 Inv-loop μ-loop) where
-  slots-at : c .before .before .before .before .before .before .slot-fits .result && c .before .before .before .slot-fits2 .result && c .slot-fits3 .result ≡ slotsFitAt (c .before .before .before .before .before .before .before .before .before .before .before .before .before .before .before .before .before .args .t1) (c .before .before .before .before .before .before .before .before .before .before .before .before .before .loop .g)
-  slots-at = slots-fit-at (c .before .before .before .before .before .before .before .before .before .before .before .before .before .before .before .before .before .args .t1) (c .before .before .before .before .before .before .before .before .before .before .before .before .before .loop .g) (c .before .before .before .before .before .before .before .before .before .before .before .before .before .loop .place) (here (c .before .before .before .before .before .before .before .before .before .before .before .before)) (c .before .before .before .before .before .before .slot-fits .result) (c .before .before .before .slot-fits2 .result) (c .slot-fits3 .result) (c .before .before .before .before .before .before .slot-fits .ensures) (c .before .before .before .slot-fits2 .ensures) (c .slot-fits3 .ensures)
+slots-at : (c : tie.After-slots-fit Inv-loop μ-loop) → c .slots-fit .result ≡ slotsFitAt (c .before .before .before .before .before .before .before .before .before .before .before .before .before .before .before .args .t1) (c .before .before .before .before .before .before .before .before .before .before .before .loop .g)
+slots-at c = slots-fit-at (c .before .before .before .before .before .before .before .before .before .before .before .before .before .before .before .args .t1) (c .before .before .before .before .before .before .before .before .before .before .before .loop .g) (c .before .before .before .before .before .before .before .before .before .before .before .loop .place) (here (c .before .before .before .before .before .before .before .before .before .before)) (c .slots-fit .result) (c .slots-fit .ensures)
 
 nodes-requires : tie.Need-nodes-requires Inv-loop μ-loop
 nodes-requires c κs = search needs
@@ -119,64 +118,58 @@ returns c = no-node (c .before .before .before .before .before .before .before .
 mul-e : tie.Need-mul-e Inv-loop μ-loop
 mul-e c = omega (arith, low (c .before .before .before))
 
-element-copy-out-slot-fits : tie.Need-element-copy-out-slot-fits Inv-loop μ-loop
-element-copy-out-slot-fits c = omega (arith, low (c .before .before .before))
+element-copy-out-slots-fit : tie.Need-element-copy-out-slots-fit Inv-loop μ-loop
+element-copy-out-slots-fit c = omega (arith, low (c .before .before .before))
 
-element-copy-out-slot-fits-2 : tie.Need-element-copy-out-slot-fits-2 Inv-loop μ-loop
-element-copy-out-slot-fits-2 c = omega (arith, low (c .before .before .before .before))
+add-slots-fit : tie.Need-add-slots-fit Inv-loop μ-loop
+add-slots-fit c = omega (arith, low (c .before .before .before .before))
 
-slot-fits-requires : tie.Need-slot-fits-requires Inv-loop μ-loop
-slot-fits-requires c κs = on (c .before .before .before .before .before)
+element-copy-out-slots-fit-2 : tie.Need-element-copy-out-slots-fit-2 Inv-loop μ-loop
+element-copy-out-slots-fit-2 c = omega (arith, low (c .before .before .before .before))
 
-add-slot-fits : tie.Need-add-slot-fits Inv-loop μ-loop
-add-slot-fits c = omega (arith, low (c .before .before .before .before .before .before))
+add-slots-fit-2 : tie.Need-add-slots-fit-2 Inv-loop μ-loop
+add-slots-fit-2 c = omega (arith, low (c .before .before .before .before .before))
 
-element-copy-out-slot-fits-3 : tie.Need-element-copy-out-slot-fits-3 Inv-loop μ-loop
-element-copy-out-slot-fits-3 c = omega (arith, low (c .before .before .before .before .before .before))
+element-copy-out-slots-fit-3 : tie.Need-element-copy-out-slots-fit-3 Inv-loop μ-loop
+element-copy-out-slots-fit-3 c = omega (arith, low (c .before .before .before .before .before))
 
-add-slot-fits-2 : tie.Need-add-slot-fits-2 Inv-loop μ-loop
-add-slot-fits-2 c = omega (arith, low (c .before .before .before .before .before .before .before))
+element-copy-out-slots-fit-4 : tie.Need-element-copy-out-slots-fit-4 Inv-loop μ-loop
+element-copy-out-slots-fit-4 c = omega (arith, low (c .before .before .before .before .before .before))
 
-element-copy-out-slot-fits-4 : tie.Need-element-copy-out-slot-fits-4 Inv-loop μ-loop
-element-copy-out-slot-fits-4 c = omega (arith, low (c .before .before .before .before .before .before .before))
+add-slots-fit-3 : tie.Need-add-slots-fit-3 Inv-loop μ-loop
+add-slots-fit-3 c = omega (arith, low (c .before .before .before .before .before .before .before))
 
-slot-fits-requires-2 : tie.Need-slot-fits-requires-2 Inv-loop μ-loop
-slot-fits-requires-2 c κs = on (c .before .before .before .before .before .before .before .before)
+element-copy-out-slots-fit-5 : tie.Need-element-copy-out-slots-fit-5 Inv-loop μ-loop
+element-copy-out-slots-fit-5 c = omega (arith, low (c .before .before .before .before .before .before .before))
 
-add-slot-fits-3 : tie.Need-add-slot-fits-3 Inv-loop μ-loop
-add-slot-fits-3 c = omega (arith, low (c .before .before .before .before .before .before .before .before .before))
+add-slots-fit-4 : tie.Need-add-slots-fit-4 Inv-loop μ-loop
+add-slots-fit-4 c = omega (arith, low (c .before .before .before .before .before .before .before .before))
 
-element-copy-out-slot-fits-5 : tie.Need-element-copy-out-slot-fits-5 Inv-loop μ-loop
-element-copy-out-slot-fits-5 c = omega (arith, low (c .before .before .before .before .before .before .before .before .before))
+element-copy-out-slots-fit-6 : tie.Need-element-copy-out-slots-fit-6 Inv-loop μ-loop
+element-copy-out-slots-fit-6 c = omega (arith, low (c .before .before .before .before .before .before .before .before))
 
-add-slot-fits-4 : tie.Need-add-slot-fits-4 Inv-loop μ-loop
-add-slot-fits-4 c = omega (arith, low (c .before .before .before .before .before .before .before .before .before .before))
-
-element-copy-out-slot-fits-6 : tie.Need-element-copy-out-slot-fits-6 Inv-loop μ-loop
-element-copy-out-slot-fits-6 c = omega (arith, low (c .before .before .before .before .before .before .before .before .before .before))
-
-slot-fits-requires-3 : tie.Need-slot-fits-requires-3 Inv-loop μ-loop
-slot-fits-requires-3 c κs = on (c .before .before .before .before .before .before .before .before .before .before .before)
+slots-fit-requires : tie.Need-slots-fit-requires Inv-loop μ-loop
+slots-fit-requires c κs = on (c .before .before .before .before .before .before .before .before .before)
 
 returns-2 : tie.Need-returns-2 Inv-loop μ-loop
-returns-2 c = no-slot (c .before .before .before .before .before .before .before .before .before .before .before .before .before .before .before .before .before .before .args .t1) _ _ (counted (c .before .before .before .before .before .before .before .before .before .before .before .before .before)) (slots-at (c .before)) (not-true _ (c .if2 .taken))
+returns-2 c = no-slot (c .before .before .before .before .before .before .before .before .before .before .before .before .before .before .before .before .args .t1) _ _ (counted (c .before .before .before .before .before .before .before .before .before .before .before)) (slots-at (c .before)) (not-true _ (c .if2 .taken))
 
 next-place-requires : tie.Need-next-place-requires Inv-loop μ-loop
-next-place-requires c κs = omega (arith, depth-low _ _ _ _ (on (c .before .before .before .before .before .before .before .before .before .before .before .before .before)))
+next-place-requires c κs = omega (arith, depth-low _ _ _ _ (on (c .before .before .before .before .before .before .before .before .before .before .before)))
 
 add-g : tie.Need-add-g Inv-loop μ-loop
-add-g c = omega (arith, low (c .before .before .before .before .before .before .before .before .before .before .before .before .before .before))
+add-g c = omega (arith, low (c .before .before .before .before .before .before .before .before .before .before .before .before))
 
 loop-less : tie.Need-loop-less Inv-loop μ-loop
-loop-less c = omega (arith, c .before .before .before .before .before .before .before .before .before .before .before .before .before .before .loop-test .taken)
+loop-less c = omega (arith, c .before .before .before .before .before .before .before .before .before .before .before .before .loop-test .taken)
 
 loop-again : tie.Need-loop-again Inv-loop μ-loop
-loop-again c = let w = c .before .before .before .before .before .before .before .before .before .before .before .before .before .before .before .before .before .before .before .args .t1 in
-    let l = c .before .before .before .before .before .before .before .before .before .before .before .before .before .before .before .loop in
+loop-again c = let w = c .before .before .before .before .before .before .before .before .before .before .before .before .before .before .before .before .before .args .t1 in
+    let l = c .before .before .before .before .before .before .before .before .before .before .before .before .before .loop in
     record {
-      within = omega (arith, c .before .before .before .before .before .before .before .before .before .before .before .before .before .before .loop-test .taken);
+      within = omega (arith, c .before .before .before .before .before .before .before .before .before .before .before .before .loop-test .taken);
       stood = λ one. walks (w .shape .height) (w .shape .distance) (l .place) (c .next-place .result) (l .g) one (l .inv .stood one) (c .next-place .ensures);
-      nodes = every-more (nodeFitsAt base w) (l .g) (l .inv .nodes) (sym (node-at (c .before .before .before .before .before .before .before .before .before .before .before .before)) ∙ not-false _ (c .before .before .before .before .before .before .before .before .before .before .before .if1 .left));
+      nodes = every-more (nodeFitsAt base w) (l .g) (l .inv .nodes) (sym (node-at (c .before .before .before .before .before .before .before .before .before .before)) ∙ not-false _ (c .before .before .before .before .before .before .before .before .before .if1 .left));
       slots = every-more (slotsFitAt w) (l .g) (l .inv .slots) (sym (slots-at (c .before .before)) ∙ not-false _ (c .before .if2 .left));
     }
 
@@ -197,19 +190,17 @@ used-fit-spec =
     node-fits-requires
     returns
     mul-e
-    element-copy-out-slot-fits
-    element-copy-out-slot-fits-2
-    slot-fits-requires
-    add-slot-fits
-    element-copy-out-slot-fits-3
-    add-slot-fits-2
-    element-copy-out-slot-fits-4
-    slot-fits-requires-2
-    add-slot-fits-3
-    element-copy-out-slot-fits-5
-    add-slot-fits-4
-    element-copy-out-slot-fits-6
-    slot-fits-requires-3
+    element-copy-out-slots-fit
+    add-slots-fit
+    element-copy-out-slots-fit-2
+    add-slots-fit-2
+    element-copy-out-slots-fit-3
+    element-copy-out-slots-fit-4
+    add-slots-fit-3
+    element-copy-out-slots-fit-5
+    add-slots-fit-4
+    element-copy-out-slots-fit-6
+    slots-fit-requires
     returns-2
     next-place-requires
     add-g

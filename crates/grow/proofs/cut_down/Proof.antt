@@ -1,26 +1,21 @@
-use Prim.Native.Nat.{_-_}
+-- `grow::cut_down` meets its contract. Assumes nothing.
 use borrow.Author.Needs.{needs}
 use Rattle.grow.proofs.cut_down.Statement.{statement}
 use Rattle.grow.proofs.cut_down.Tie as tie
 use Rattle.grow.proofs.Parts.{cut-yes, cut-no}
 
--- src/lib.rt:50:9
 cast-if1 : tie.Need-cast-if1
 cast-if1 c = search needs
 
--- src/lib.rt:50:9
 add-if1 : tie.Need-add-if1
 add-if1 c = search needs
 
--- src/lib.rt:50:37
 sheets-requires : tie.Need-sheets-requires
 sheets-requires c κs = search needs
 
--- src/lib.rt:51:9
 returns : tie.Need-returns
 returns c = cut-yes (c .before .before .before .before .args .shape .distance) (c .before .before .before .before .args .place .depth) _ (c .before .before .before .before .args .node) (c .before .before .sheets .ensures) (c .if1 .taken)
 
--- src/lib.rt:47:1
 returns-2 : tie.Need-returns-2
 returns-2 c = cut-no (c .before .before .before .before .args .shape .distance) (c .before .before .before .before .args .place .depth) _ (c .before .before .before .before .args .node) (c .before .before .sheets .ensures) (c .if1 .left)
 

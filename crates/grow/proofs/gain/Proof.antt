@@ -1,4 +1,4 @@
-use Prim.Native.Nat.{_-_}
+-- `grow::gain` meets its contract. Assumes nothing.
 use native.Mathlib.Omega.{arith}
 use borrow.Author.Needs.{needs}
 use borrow.Author.Tests.{not-true, not-false}
@@ -6,35 +6,27 @@ use Rattle.grow.proofs.gain.Statement.{statement}
 use Rattle.grow.proofs.gain.Tie as tie
 use Rattle.grow.proofs.Parts.{gains-none, gains-full, gains-capped, gains-sum, bit-low}
 
--- src/lib.rt:34:9
 returns : tie.Need-returns
 returns c = gains-none (c .before .before .args .way) (c .before .before .args .old) (c .before .before .args .node) (c .before .before .args .other) (not-true _ (c .if1 .taken))
 
--- src/lib.rt:37:9
 returns-2 : tie.Need-returns-2
 returns-2 c = gains-full (c .before .before .before .args .way) (c .before .before .before .args .old) (c .before .before .before .args .node) (c .before .before .before .args .other) (not-false _ (c .before .if1 .left)) (c .if2 .taken)
 
--- src/lib.rt:39:21
 bit-requires : tie.Need-bit-requires
 bit-requires c κs = search needs
 
--- src/lib.rt:39:15
 add-sum : tie.Need-add-sum
 add-sum c = omega (arith, c .bit .ensures, bit-low (c .before .before .before .before .args .node .active), c .before .if2 .left)
 
--- src/lib.rt:39:41
 bit-requires-2 : tie.Need-bit-requires-2
 bit-requires-2 c κs = search needs
 
--- src/lib.rt:39:15
 add-sum-2 : tie.Need-add-sum-2
 add-sum-2 c = omega (arith, c .before .bit .ensures, c .bit2 .ensures, bit-low (c .before .before .before .before .before .args .node .active), bit-low (c .before .before .before .before .before .args .other .active), c .before .before .if2 .left)
 
--- src/lib.rt:41:9
 returns-3 : tie.Need-returns-3
 returns-3 c = gains-capped (c .before .before .before .before .before .before .args .way) (c .before .before .before .before .before .before .args .old) (c .before .before .before .before .before .before .args .node) (c .before .before .before .before .before .before .args .other) _ _ (c .before .before .bit .ensures) (c .before .bit2 .ensures) (not-false _ (c .before .before .before .before .if1 .left)) (c .if3 .taken)
 
--- src/lib.rt:30:1
 returns-4 : tie.Need-returns-4
 returns-4 c = gains-sum (c .before .before .before .before .before .before .args .way) (c .before .before .before .before .before .before .args .old) (c .before .before .before .before .before .before .args .node) (c .before .before .before .before .before .before .args .other) _ _ (c .before .before .bit .ensures) (c .before .bit2 .ensures) (not-false _ (c .before .before .before .before .if1 .left)) (c .if3 .left)
 

@@ -1,3 +1,4 @@
+-- `merge::arrives` meets its contract. Assumes nothing.
 use mathlib.Core.Path.{_≡_, sym, _∙_}
 use mathlib.Core.Bool.{false}
 use Prim.Native.Nat.{_≤_, _<_, _-_}
@@ -15,30 +16,24 @@ Inv-loop seen odd₀ k₀ odd k = (k ≤ 6) × (arrivals (drop k seen) odd ≡ a
 abbrev μ-loop : tie.MeasureT-loop
 μ-loop seen odd₀ k₀ odd k = 6 - k
 
--- src/lib.rt:79:5
 loop-holds : tie.Need-loop-holds Inv-loop μ-loop
 loop-holds c = search needs
 
--- src/lib.rt:80:17
 mul-s : tie.Need-mul-s Inv-loop μ-loop
 mul-s c = search needs
 
--- src/lib.rt:80:17
 array-copy-out-s : tie.Need-array-copy-out-s Inv-loop μ-loop
 array-copy-out-s c = search needs
 
--- src/lib.rt:82:9
 add-k : tie.Need-add-k Inv-loop μ-loop
 add-k c = search needs
 
--- src/lib.rt:79:5
 loop-less : tie.Need-loop-less Inv-loop μ-loop
 loop-less c = search needs
 
 six : (c : tie.Start Inv-loop μ-loop) → length (c .args .t1) ≡ 6
 six c = c .good .0 .1 .0 .1
 
--- src/lib.rt:79:5
 loop-again : tie.Need-loop-again Inv-loop μ-loop
 loop-again c =
     let l = c .before .before .before .loop in
@@ -46,7 +41,6 @@ loop-again c =
     let h : l .k < length (s .args .t1) = omega (arith, six s) in
     (omega arith, sym (counted (s .args .t1) (l .k) (l .odd) h) ∙ l .inv .1)
 
--- src/lib.rt:74:1
 returns : tie.Need-returns Inv-loop μ-loop
 returns c =
     let l = c .before .loop in

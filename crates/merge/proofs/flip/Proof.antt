@@ -1,18 +1,15 @@
-use Prim.Native.Nat.{_-_}
+-- `merge::flip` meets its contract. Assumes nothing.
 use borrow.Author.Needs.{needs}
 use borrow.Author.Tests.{not-true, not-false}
 use Rattle.merge.proofs.flip.Statement.{statement}
 use Rattle.merge.proofs.flip.Tie as tie
 
--- src/lib.rt:193:9
 returns : tie.Need-returns
 returns c = rw (not-true (c .before .before .args .s .there) (c .if1 .taken))
 
--- src/lib.rt:195:12
 pushes-requires : tie.Need-pushes-requires
 pushes-requires c κs = search needs
 
--- src/lib.rt:189:1
 returns-2 : tie.Need-returns-2
 returns-2 c = rw (c .before .pushes .ensures, not-false (c .before .before .before .before .args .s .there) (c .before .before .if1 .left))
 

@@ -1,30 +1,25 @@
+-- `merge::flood` meets its contract. Assumes nothing.
 use borrow.Author.Needs.{needs}
 use Rattle.window.specs.Merging.{floods}
 use Rattle.merge.proofs.flood.Statement.{statement}
 use Rattle.merge.proofs.flood.Tie as tie
 
--- src/lib.rt:151:30
 enum-told : tie.Need-enum-told
 enum-told c = search needs
 
--- src/lib.rt:151:30
 number-requires : tie.Need-number-requires
 number-requires c κs = search needs
 
--- src/lib.rt:154:20
 enum-known-mark : tie.Need-enum-known-mark
 enum-known-mark c = search needs
 
--- src/lib.rt:154:26
 scan-requires : tie.Need-scan-requires
 scan-requires c κs = search needs
 
--- src/lib.rt:135:1
 returns : tie.Need-returns
 unfolding floods
 returns c = rw (c .before .enum-told .given .1, c .number .ensures)
 
--- src/lib.rt:135:1
 returns-2 : tie.Need-returns-2
 unfolding floods
 returns-2 c = rw (c .before .before .mark .given .1) (c .scan .ensures)

@@ -1,24 +1,20 @@
-use Prim.Native.Nat.{_-_}
+-- `merge::look` meets its contract. Assumes nothing.
 use borrow.Author.Needs.{needs}
 use borrow.Author.Tests.{not-true, not-false}
 use Rattle.window.specs.Merging.{sees}
 use Rattle.merge.proofs.look.Statement.{statement}
 use Rattle.merge.proofs.look.Tie as tie
 
--- src/lib.rt:47:9
 nothing-requires : tie.Need-nothing-requires
 nothing-requires c κs = search needs
 
--- src/lib.rt:47:9
 returns : tie.Need-returns
 unfolding sees
 returns c = rw (c .nothing .ensures, not-true (c .before .before .before .args .way .there) (c .before .if1 .taken))
 
--- src/lib.rt:54:17
 pushes-requires : tie.Need-pushes-requires
 pushes-requires c κs = search needs
 
--- src/lib.rt:43:1
 returns-2 : tie.Need-returns-2
 unfolding sees
 returns-2 c = rw (c .pushes .ensures, not-false (c .before .before .before .args .way .there) (c .before .if1 .left))

@@ -1,3 +1,4 @@
+-- `merge::scan` meets its contract. Assumes nothing.
 use mathlib.Core.Path.{_≡_, sym, _∙_}
 use mathlib.Core.Logic.{⊎-elim}
 use mathlib.Core.Bool.{false}
@@ -19,46 +20,36 @@ Inv-scan unrooted pointer m seen lowest₀ to₀ busy₀ reset₀ k₀ lowest to
 abbrev μ-scan : tie.MeasureT-scan
 μ-scan unrooted pointer m seen lowest₀ to₀ busy₀ reset₀ k₀ lowest to busy reset k = 6 - k
 
--- src/lib.rt:96:5
 scan-holds : tie.Need-scan-holds Inv-scan μ-scan
 scan-holds c = search needs
 
--- src/lib.rt:97:22
 cast-s : tie.Need-cast-s Inv-scan μ-scan
 cast-s c = search needs
 
--- src/lib.rt:97:17
 mul-s : tie.Need-mul-s Inv-scan μ-scan
 mul-s c = search needs
 
--- src/lib.rt:97:17
 array-copy-out-s : tie.Need-array-copy-out-s Inv-scan μ-scan
 array-copy-out-s c = search needs
 
--- src/lib.rt:102:24
 enum-told : tie.Need-enum-told Inv-scan μ-scan
 enum-told c = search needs
 
--- src/lib.rt:107:28
 enum-known-there : tie.Need-enum-known-there Inv-scan μ-scan
 enum-known-there c = search needs
 
--- src/lib.rt:110:30
 add-to : tie.Need-add-to Inv-scan μ-scan
 add-to c = search needs
 
--- src/lib.rt:116:9
 add-k : tie.Need-add-k Inv-scan μ-scan
 add-k c = search needs
 
--- src/lib.rt:96:5
 scan-less : tie.Need-scan-less Inv-scan μ-scan
 scan-less c = search needs
 
 six : (c : tie.Start Inv-scan μ-scan) → length (c .args .t4) ≡ 6
 six c = c .good .1 .1 .1 .0 .1 .0 .1
 
--- src/lib.rt:96:5
 scan-again : tie.Need-scan-again Inv-scan μ-scan
 scan-again c =
     let l = c .before .before .before .scan in
@@ -75,7 +66,6 @@ scan-again c =
           (c .if1 .came),
     )
 
--- src/lib.rt:119:9
 returns : tie.Need-returns Inv-scan μ-scan
 returns c =
     let l = c .before .before .scan in
@@ -85,7 +75,6 @@ returns c =
     let e = stopped (s .args .t4) (l .k) (s .args .unrooted) (l .to) (l .busy) (l .lowest) h (w .2 .taken) (w .4 .given .1) (not-true _ (w .5 .taken)) in
     sym e ∙ l .inv .2) (c .before .scan-test .came)
 
--- src/lib.rt:88:1
 returns-2 : tie.Need-returns-2 Inv-scan μ-scan
 returns-2 c =
     let l = c .before .before .scan in

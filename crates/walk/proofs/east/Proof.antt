@@ -1,5 +1,5 @@
+-- `walk::east` meets its contract. Assumes nothing.
 use mathlib.Core.Path.{_∙_}
-use Prim.Native.Nat.{_-_}
 use native.Mathlib.Omega.{arith}
 use borrow.Author.Needs.{needs}
 use Rattle.walk.proofs.east.Statement.{statement}
@@ -7,27 +7,21 @@ use Rattle.walk.proofs.east.Tie as tie
 use Rattle.walk.specs.LawsWalk.{stands-low}
 use Rattle.walk.specs.Ways.{east-none, east-way, less}
 
--- src/lib.rt:105:9
 no-edge-requires : tie.Need-no-edge-requires
 no-edge-requires c κs = search needs
 
--- src/lib.rt:105:9
 returns : tie.Need-returns
 returns c = c .no-edge .ensures ∙ east-none _ _ _ _ (c .before .before .before .before .pre) (c .before .if1 .taken)
 
--- src/lib.rt:107:10
 add-over : tie.Need-add-over
 add-over c = omega (arith, stands-low _ _ _ _ (c .before .before .before .pre))
 
--- src/lib.rt:107:23
 add-over-2 : tie.Need-add-over-2
 add-over-2 c = omega (arith, c .before .before .before .before .pre .inside .column, c .before .before .before .before .pre .ranged .d15)
 
--- src/lib.rt:107:5
 over-requires : tie.Need-over-requires
 over-requires c κs = (omega (arith, stands-low _ _ _ _ (c .before .before .before .before .before .pre)), omega arith)
 
--- src/lib.rt:100:1
 returns-2 : tie.Need-returns-2
 returns-2 c = c .over .ensures ∙ east-way _ _ _ _ (c .before .before .before .before .before .before .pre) (less _ _ (c .before .before .before .before .before .before .pre .inside .column) (c .before .before .before .if1 .left))
 

@@ -1,42 +1,33 @@
-use Prim.Native.Nat.{_-_}
+-- `walk::next_place` meets its contract. Assumes nothing.
 use borrow.Author.Needs.{needs}
 use Rattle.walk.proofs.next_place.Statement.{statement}
 use Rattle.walk.proofs.next_place.Tie as tie
 use Rattle.walk.specs.LawsWalk.{after-column, after-row, after-sheet}
 
--- src/lib.rt:24:21
 add-t4 : tie.Need-add-t4
 add-t4 c = search needs
 
--- src/lib.rt:21:9
 returns : tie.Need-returns
 returns c = after-column (c .before .before .before .before .args .shape .height) (c .before .before .before .before .args .shape .distance) (c .before .before .before .before .args .place) (c .before .if1 .taken)
 
--- src/lib.rt:27:9
 cast-if2 : tie.Need-cast-if2
 cast-if2 c = search needs
 
--- src/lib.rt:27:8
 add-if2 : tie.Need-add-if2
 add-if2 c = search needs
 
--- src/lib.rt:27:35
 cast-if2-2 : tie.Need-cast-if2-2
 cast-if2-2 c = search needs
 
--- src/lib.rt:30:18
 add-t8 : tie.Need-add-t8
 add-t8 c = search needs
 
--- src/lib.rt:28:9
 returns-2 : tie.Need-returns-2
 returns-2 c = after-row (c .before .before .before .before .before .before .before .args .shape .height) (c .before .before .before .before .before .before .before .args .shape .distance) (c .before .before .before .before .before .before .before .args .place) (c .before .before .before .before .if1 .left) (c .before .if2 .taken)
 
--- src/lib.rt:35:16
 add-t9 : tie.Need-add-t9
 add-t9 c = search needs
 
--- src/lib.rt:16:1
 returns-3 : tie.Need-returns-3
 returns-3 c = after-sheet (c .before .before .before .before .before .before .before .args .shape .height) (c .before .before .before .before .before .before .before .args .shape .distance) (c .before .before .before .before .before .before .before .args .place) (c .before .before .before .before .if1 .left) (c .before .if2 .left)
 

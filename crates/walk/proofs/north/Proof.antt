@@ -1,5 +1,5 @@
+-- `walk::north` meets its contract. Assumes nothing.
 use mathlib.Core.Path.{_∙_}
-use Prim.Native.Nat.{_-_}
 use native.Mathlib.Omega.{arith}
 use borrow.Author.Needs.{needs}
 use Rattle.walk.proofs.north.Statement.{statement}
@@ -7,35 +7,27 @@ use Rattle.walk.proofs.north.Tie as tie
 use Rattle.walk.specs.LawsWalk.{stands-low}
 use Rattle.walk.specs.Ways.{north-none, north-index, north-way, no-test, a-test}
 
--- src/lib.rt:82:10
 inner-requires : tie.Need-inner-requires
 inner-requires c κs = search needs
 
--- src/lib.rt:83:9
 no-edge-requires : tie.Need-no-edge-requires
 no-edge-requires c κs = search needs
 
--- src/lib.rt:83:9
 returns : tie.Need-returns
 returns c = c .no-edge .ensures ∙ north-none _ _ _ _ (c .before .before .before .before .pre) (no-test _ _ _ (c .before .before .before .inner .ensures) (c .before .if1 .taken))
 
--- src/lib.rt:85:19
 cast-to : tie.Need-cast-to
 cast-to c = search needs
 
--- src/lib.rt:85:19
 add-to : tie.Need-add-to
 add-to c = search needs
 
--- src/lib.rt:85:14
 sub-to : tie.Need-sub-to
 sub-to c = omega (arith, north-index _ _ _ _ (c .before .before .before .before .pre) (a-test _ _ _ (c .before .before .before .inner .ensures) (c .before .if1 .left)))
 
--- src/lib.rt:86:5
 over-requires : tie.Need-over-requires
 over-requires c κs = (omega (arith, stands-low _ _ _ _ (c .before .before .before .before .pre)), omega arith)
 
--- src/lib.rt:78:1
 returns-2 : tie.Need-returns-2
 returns-2 c = c .over .ensures ∙ north-way _ _ _ _ (c .before .before .before .before .before .pre) (a-test _ _ _ (c .before .before .before .before .inner .ensures) (c .before .before .if1 .left))
 

@@ -1,19 +1,16 @@
-use Prim.Native.Nat.{_-_}
+-- `walk::number` meets its contract. Assumes nothing.
 use native.Mathlib.Omega.{arith}
 use borrow.Author.Needs.{needs}
 use Rattle.walk.proofs.number.Statement.{statement}
 use Rattle.walk.proofs.number.Tie as tie
 use Rattle.walk.specs.LawsWalk.{number-low}
 
--- src/lib.rt:46:5
 number-of-requires : tie.Need-number-of-requires
 number-of-requires c κs = search needs
 
--- src/lib.rt:46:5
 cast-result : tie.Need-cast-result
 cast-result c = omega (arith, number-low _ _ _ _ (c .before .pre), c .number-of .ensures)
 
--- src/lib.rt:42:1
 returns : tie.Need-returns
 returns c = search needs
 

@@ -1,5 +1,5 @@
+-- `walk::south` meets its contract. Assumes nothing.
 use mathlib.Core.Path.{_∙_}
-use Prim.Native.Nat.{_-_}
 use native.Mathlib.Omega.{arith}
 use borrow.Author.Needs.{needs}
 use Rattle.walk.proofs.south.Statement.{statement}
@@ -7,39 +7,30 @@ use Rattle.walk.proofs.south.Tie as tie
 use Rattle.walk.specs.LawsWalk.{stands-low}
 use Rattle.walk.specs.Ways.{south-none, south-way, no-test, a-test}
 
--- src/lib.rt:114:10
 inner-requires : tie.Need-inner-requires
 inner-requires c κs = search needs
 
--- src/lib.rt:114:33
 add-if1 : tie.Need-add-if1
 add-if1 c = omega (arith, c .before .before .pre .inside .row, c .before .before .pre .ranged .h15)
 
--- src/lib.rt:115:9
 no-edge-requires : tie.Need-no-edge-requires
 no-edge-requires c κs = search needs
 
--- src/lib.rt:115:9
 returns : tie.Need-returns
 returns c = c .no-edge .ensures ∙ south-none _ _ _ _ (c .before .before .before .before .before .pre) (no-test _ _ _ (c .before .before .before .before .inner .ensures) (c .before .if1 .taken))
 
--- src/lib.rt:117:15
 cast-over : tie.Need-cast-over
 cast-over c = search needs
 
--- src/lib.rt:117:15
 add-over : tie.Need-add-over
 add-over c = search needs
 
--- src/lib.rt:117:10
 add-over-2 : tie.Need-add-over-2
 add-over-2 c = omega (arith, stands-low _ _ _ _ (c .before .before .before .before .before .pre))
 
--- src/lib.rt:117:5
 over-requires : tie.Need-over-requires
 over-requires c κs = (omega (arith, stands-low _ _ _ _ (c .before .before .before .before .before .pre)), omega arith)
 
--- src/lib.rt:110:1
 returns-2 : tie.Need-returns-2
 returns-2 c = c .over .ensures ∙ south-way _ _ _ _ (c .before .before .before .before .before .before .pre) (a-test _ _ _ (c .before .before .before .before .before .inner .ensures) (c .before .before .if1 .left))
 

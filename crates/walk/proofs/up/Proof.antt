@@ -1,5 +1,5 @@
+-- `walk::up` meets its contract. Assumes nothing.
 use mathlib.Core.Path.{_∙_}
-use Prim.Native.Nat.{_-_}
 use native.Mathlib.Omega.{arith}
 use borrow.Author.Needs.{needs}
 use Rattle.walk.proofs.up.Statement.{statement}
@@ -7,43 +7,33 @@ use Rattle.walk.proofs.up.Tie as tie
 use Rattle.walk.specs.LawsWalk.{stands-low}
 use Rattle.walk.specs.Ways.{up-none, up-index, up-way, no-test, a-test}
 
--- src/lib.rt:135:10
 inner-requires : tie.Need-inner-requires
 inner-requires c κs = search needs
 
--- src/lib.rt:136:9
 no-edge-requires : tie.Need-no-edge-requires
 no-edge-requires c κs = search needs
 
--- src/lib.rt:136:9
 returns : tie.Need-returns
 returns c = c .no-edge .ensures ∙ up-none _ _ _ _ (c .before .before .before .before .pre) (no-test _ _ _ (c .before .before .before .inner .ensures) (c .before .if1 .taken))
 
--- src/lib.rt:138:14
 cast-over : tie.Need-cast-over
 cast-over c = search needs
 
--- src/lib.rt:138:39
 cast-over-2 : tie.Need-cast-over-2
 cast-over-2 c = search needs
 
--- src/lib.rt:138:39
 add-over : tie.Need-add-over
 add-over c = search needs
 
--- src/lib.rt:138:14
 mul-over : tie.Need-mul-over
 mul-over c = omega (arith, up-index _ _ _ _ (c .before .before .before .before .before .pre) (a-test _ _ _ (c .before .before .before .before .inner .ensures) (c .before .before .if1 .left)), stands-low _ _ _ _ (c .before .before .before .before .before .pre))
 
--- src/lib.rt:138:10
 sub-over : tie.Need-sub-over
 sub-over c = omega (arith, up-index _ _ _ _ (c .before .before .before .before .before .pre) (a-test _ _ _ (c .before .before .before .before .inner .ensures) (c .before .before .if1 .left)))
 
--- src/lib.rt:138:5
 over-requires : tie.Need-over-requires
 over-requires c κs = (stands-low _ _ _ _ (c .before .before .before .before .before .pre), omega arith)
 
--- src/lib.rt:131:1
 returns-2 : tie.Need-returns-2
 returns-2 c = c .over .ensures ∙ up-way _ _ _ _ (c .before .before .before .before .before .before .pre) (a-test _ _ _ (c .before .before .before .before .before .inner .ensures) (c .before .before .before .if1 .left))
 

@@ -1,3 +1,4 @@
+-- `walk::west` meets its contract. Assumes nothing.
 use mathlib.Core.Path.{_∙_}
 use Prim.Native.Nat.{_<_, _-_}
 use native.Mathlib.Omega.{arith}
@@ -7,23 +8,18 @@ use Rattle.walk.proofs.west.Tie as tie
 use Rattle.walk.specs.LawsWalk.{stands-low}
 use Rattle.walk.specs.Ways.{west-none, west-index, west-way, pos}
 
--- src/lib.rt:94:9
 no-edge-requires : tie.Need-no-edge-requires
 no-edge-requires c κs = search needs
 
--- src/lib.rt:94:9
 returns : tie.Need-returns
 returns c = c .no-edge .ensures ∙ west-none _ _ _ _ (c .before .before .before .pre) (c .before .if1 .taken)
 
--- src/lib.rt:96:14
 sub-to : tie.Need-sub-to
 sub-to c = let z : 0 < c .before .before .args .place .column = pos _ (c .if1 .left) in omega (arith, west-index _ _ _ _ (c .before .before .pre) z)
 
--- src/lib.rt:97:5
 over-requires : tie.Need-over-requires
 over-requires c κs = (omega (arith, stands-low _ _ _ _ (c .before .before .before .pre)), omega arith)
 
--- src/lib.rt:89:1
 returns-2 : tie.Need-returns-2
 returns-2 c = c .over .ensures ∙ west-way _ _ _ _ (c .before .before .before .before .pre) (pos _ (c .before .before .if1 .left))
 

@@ -1,0 +1,103 @@
+-- CLOSURE: the window that a call gives, where it is done, is well-formed, so that no later call is refused 21. Assumes nothing.
+use Prim.Native.Nat.{ℕ}
+use mathlib.Core.Path.{_≡_, subst}
+use mathlib.Core.Bool.{true, false, not}
+use mathlib.Core.List.{List}
+use borrow.Author.Tests.{not-true}
+use Rattle.refusal.specs.Answer.{done}
+use Rattle.shape.specs.Sizes.{inRange}
+use Rattle.shape.specs.Steps.{Table, base}
+use Rattle.shape.specs.declared.Shape.{Shape}
+use Rattle.window.specs.Window.{isRest, isToGrow, isMerging}
+use Rattle.window.specs.Formed.{wellFormed}
+use Rattle.window.specs.Fresh.{freshWindow}
+use Rattle.window.specs.Round.{rounded}
+use Rattle.window.specs.Grow.{grown}
+use Rattle.window.specs.Merging.{merged}
+use Rattle.window.specs.Run.{ran}
+use Rattle.window.specs.declared.Ran.{Ran}
+use Rattle.window.specs.Calls.{Round, freshCall, roundCall, growCall, mergingCall, runCall}
+use Rattle.window.specs.declared.Window.{Window}
+use Rattle.closure.specs.Sized.{Sized}
+use Rattle.closure.specs.Suited.{Suited, suited-base}
+use Rattle.closure.specs.Fresh.{fresh, fresh-sized}
+use Rattle.closure.specs.Round.{round, round-sized}
+use Rattle.closure.specs.Grow.{grow, grow-sized}
+use Rattle.closure.specs.Merging.{merging, merging-sized}
+use Rattle.closure.specs.Run.{run-keeps}
+use Rattle.closure.specs.Done.{started, staged, received}
+
+-- well-formed, with arrays of their lengths
+pub record Kept (T : Table) (w : Window) : Type 0 where
+  pub formed : wellFormed T w ≡ true
+  pub sized : Sized w
+
+-- THE STATEMENT, for each call on any window whose arrays have their lengths, whatever else it is given
+pub record Closed (T : Table) : Type 0 where
+  pub freshCalls : (height distance : ℕ) (v : Window) (n : ℕ) → freshCall height distance ≡ done v n → Kept T v
+  pub roundCalls : (w : Window) (bytes edges escapes : List ℕ) (v : Round) (n : ℕ) → Sized w → roundCall T w bytes edges escapes ≡ done v n → Kept T (v .window)
+  pub growCalls : (w v : Window) (n : ℕ) → Sized w → growCall T w ≡ done v n → Kept T v
+  pub mergingCalls : (w v : Window) (n : ℕ) → Sized w → mergingCall T w ≡ done v n → Kept T v
+  pub runCalls : (w : Window) (budget : ℕ) (v : Ran) (n : ℕ) → Sized w → runCall T w budget ≡ done v n → Kept T (v .window)
+
+-- THE RULES
+
+pub kept-fresh : (T : Table) (sh : Shape) → inRange (sh .height) (sh .distance) ≡ true → Kept T (freshWindow sh)
+kept-fresh T sh e = record { formed = fresh T sh e; sized = fresh-sized sh }
+
+module _ (T : Table) (S : Suited T) where
+  module _ (w : Window) (k : Kept T w) where
+    pub kept-round : (bytes : List ℕ) → isRest (w .stage) ≡ true → Kept T (rounded T w bytes)
+    kept-round bytes st = record { formed = round T w bytes S (k .formed) st; sized = round-sized T w bytes (S .room) (k .sized) }
+
+    pub kept-grow : Kept T (grown T w)
+    kept-grow = record { formed = grow T w (k .formed); sized = grow-sized T w (S .room) (k .sized) }
+
+    pub kept-merging : isMerging (w .stage) ≡ true → Kept T (merged T w)
+    kept-merging st = record { formed = merging T w S (k .formed) st; sized = merging-sized T w (S .room) (k .sized) }
+
+  pub kept-run : (w : Window) → Kept T w → (budget : ℕ) → isRest (w .stage) ≡ false → Kept T (ran T budget w .window)
+  kept-run w k budget st = run-keeps T (Kept T) (λ v e i. kept-grow v i) (λ v e i. kept-merging v i e) budget w st k
+
+-- THE CALLS
+
+module _ (T : Table) (S : Suited T) where
+  fresh-done : (h d : ℕ) (v : Window) (n : ℕ) → freshCall h d ≡ done v n → Kept T v
+  fresh-done h d v n e = let x = started h d v n e in subst (λ (u : Window). Kept T u) (x .value) (kept-fresh T (record { height = h; distance = d }) (x .ranged))
+
+  module _ (w : Window) (s : Sized w) where
+    round-done : (bytes edges escapes : List ℕ) (v : Round) (n : ℕ) → roundCall T w bytes edges escapes ≡ done v n → Kept T (v .window)
+    round-done bytes edges escapes v n e =
+        let x = received T w bytes edges escapes v n e in
+        subst (λ (r : Round). Kept T (r .window)) (x .value) (kept-round T S w (record { formed = x .formed; sized = s }) bytes (x .staged))
+
+    grow-done : (v : Window) (n : ℕ) → growCall T w ≡ done v n → Kept T v
+    unfolding growCall
+    grow-done v n e =
+        let x = staged T w (isToGrow (w .stage)) (grown T w) v n e in
+        subst (λ (u : Window). Kept T u) (x .value) (kept-grow T S w (record { formed = x .formed; sized = s }))
+
+    merging-done : (v : Window) (n : ℕ) → mergingCall T w ≡ done v n → Kept T v
+    unfolding mergingCall
+    merging-done v n e =
+        let x = staged T w (isMerging (w .stage)) (merged T w) v n e in
+        subst (λ (u : Window). Kept T u) (x .value) (kept-merging T S w (record { formed = x .formed; sized = s }) (x .staged))
+
+    run-done : (budget : ℕ) (v : Ran) (n : ℕ) → runCall T w budget ≡ done v n → Kept T (v .window)
+    unfolding runCall
+    run-done budget v n e =
+        let x = staged T w (not (isRest (w .stage))) (ran T budget w) v n e in
+        subst (λ (r : Ran). Kept T (r .window)) (x .value) (kept-run T S w (record { formed = x .formed; sized = s }) budget (not-true _ (x .staged)))
+
+  pub closed : Closed T
+  closed =
+      record {
+        freshCalls = fresh-done;
+        roundCalls = λ w bytes edges escapes v n s e. round-done w s bytes edges escapes v n e;
+        growCalls = λ w v n s e. grow-done w s v n e;
+        mergingCalls = λ w v n s e. merging-done w s v n e;
+        runCalls = λ w budget v n s e. run-done w s budget v n e;
+      }
+
+pub closed-base : Closed base
+closed-base = closed base suited-base

@@ -1,0 +1,77 @@
+-- A CALL: what it leaves of a window; and if it is done, the tests that it has passed and what it gives. Assumes nothing.
+use Prim.Native.Nat.{ℕ}
+use mathlib.Core.Path.{_≡_, refl, _∙_, ap}
+use mathlib.Core.Bool.{Bool, true}
+use mathlib.Core.List.{List, []}
+use lib.Dec.{ltb, eqb}
+use lib.ListN.{length}
+use Rattle.refusal.specs.Answer.{Answer, done, ended, refused, refusedAt, unless}
+use Rattle.refusal.specs.Done.{went, took}
+use Rattle.refusal.specs.Tests.{tests-done}
+use Rattle.list.specs.Sheet.{areBits}
+use Rattle.shape.specs.Ranges.{both}
+use Rattle.shape.specs.Sizes.{heightOk, distanceOk, inRange, shapeOf, detectorsOf, layerEdgesOf}
+use Rattle.shape.specs.Steps.{Table}
+use Rattle.shape.specs.declared.Shape.{Shape}
+use Rattle.window.specs.Window.{isRest}
+use Rattle.window.specs.Formed.{wellFormed}
+use Rattle.window.specs.Fresh.{freshWindow}
+use Rattle.window.specs.Round.{rounded, committed, escaped}
+use Rattle.window.specs.Calls.{leaves, Round, stateTests, freshCall, roundCall}
+use Rattle.window.specs.declared.Window.{Window}
+
+-- done or refused: what a call leaves of a window
+pub left : {A : Type 0} (P : Window → Type 0) (a : Answer A) (of : A → Window) (w : Window) → P w → ((v : A) (n : ℕ) → a ≡ done v n → P (of v)) → P (leaves a of w .window)
+left P (done v n) of w k e = e v n refl
+left P ended of w k e = k
+left P (refused n) of w k e = k
+left P (refusedAt n at) of w k e = k
+
+-- FRESH
+
+pub record Started (height distance : ℕ) (w : Window) : Type 0 where
+  pub ranged : inRange height distance ≡ true
+  pub value : freshWindow (record { height = height; distance = distance }) ≡ w
+
+pub started : (h d : ℕ) (w : Window) (n : ℕ) → freshCall h d ≡ done w n → Started h d w
+unfolding freshCall
+started h d w n e =
+    let x = went (shapeOf h d) (λ sh m. done (freshWindow sh) m) w n e in
+    let a = took (heightOk h) _ (refused 1) (x .value) (x .next) refl (x .before) in
+    let b = took (distanceOk d) _ (refused 2) (x .value) (x .next) refl (a .1) in
+    let sh : Shape = record { height = h; distance = d } in
+    let same : sh ≡ x .value = tests-done [] sh (x .value) 0 (x .next) (b .1) in
+    record { ranged = both _ _ (a .0) (b .0); value = ap (λ (s : Shape). freshWindow s) same ∙ tests-done [] (freshWindow (x .value)) w (x .next) n (x .after) }
+
+-- GROW, MERGING AND RUN
+
+pub record Staged {A : Type 0} (T : Table) (w : Window) (stage : Bool) (a v : A) : Type 0 where
+  pub formed : wellFormed T w ≡ true
+  pub staged : stage ≡ true
+  pub value : a ≡ v
+
+pub staged : {A : Type 0} (T : Table) (w : Window) (stage : Bool) (a v : A) (n : ℕ) → unless (stateTests T w stage) (done a 0) ≡ done v n → Staged T w stage a v
+staged T w stage a v n e =
+    let x = took (wellFormed T w) _ (refused 21) v n refl e in
+    let y = took stage _ (refused 22) v n refl (x .1) in
+    record { formed = x .0; staged = y .0; value = tests-done [] a v 0 n (y .1) }
+
+-- ROUND
+
+pub record Received (T : Table) (w : Window) (bytes : List ℕ) (r : Round) : Type 0 where
+  pub formed : wellFormed T w ≡ true
+  pub staged : isRest (w .stage) ≡ true
+  pub bits : areBits bytes ≡ true
+  pub value : record { window = rounded T w bytes; edges = committed T w; escapes = escaped w } ≡ r
+
+pub received : (T : Table) (w : Window) (bytes edges escapes : List ℕ) (r : Round) (n : ℕ) → roundCall T w bytes edges escapes ≡ done r n → Received T w bytes r
+unfolding roundCall
+received T w bytes edges escapes r n e =
+    let a = took (wellFormed T w) _ (refused 21) r n refl e in
+    let b = took (isRest (w .stage)) _ (refused 22) r n refl (a .1) in
+    let c = took (ltb (w .next) 4294967295) _ (refused 23) r n refl (b .1) in
+    let d = took (eqb (length bytes) (detectorsOf (w .shape .height) (w .shape .distance))) _ (refused 3) r n refl (c .1) in
+    let f = took (eqb (length edges) (layerEdgesOf (w .shape .height) (w .shape .distance))) _ (refused 5) r n refl (d .1) in
+    let g = took (eqb (length escapes) (detectorsOf (w .shape .height) (w .shape .distance))) _ (refused 6) r n refl (f .1) in
+    let i = took (areBits bytes) _ (refused 4) r n refl (g .1) in
+    record { formed = a .0; staged = b .0; bits = i .0; value = tests-done [] (record { window = rounded T w bytes; edges = committed T w; escapes = escaped w }) r 0 n (i .1) }

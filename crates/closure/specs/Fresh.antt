@@ -1,0 +1,67 @@
+-- THE FRESH WINDOW of a shape in range is well-formed. Assumes nothing.
+use Prim.Native.Nat.{ℕ, _+_, _*_, _<_}
+use native.Mathlib.Omega.{arith}
+use mathlib.Core.Path.{_≡_, refl, _∙_}
+use mathlib.Core.Bool.{Bool, true, false, _&&_, not}
+use borrow.Author.Tests.{lt-ltb}
+use lib.ListN.{replicate, length-replicate}
+use Rattle.shape.specs.Sizes.{boundary, inRange, nodesOf}
+use Rattle.shape.specs.Ranges.{Ranged, ranged}
+use Rattle.shape.specs.Nodes.{numberOf, placeAt}
+use Rattle.shape.specs.Steps.{Table}
+use Rattle.shape.specs.declared.Shape.{Shape}
+use Rattle.window.specs.LawsLists.{length-over}
+use Rattle.window.specs.Window.{alone, unused}
+use Rattle.window.specs.Fresh.{freshWindow}
+use Rattle.window.specs.Formed.{isEmpty, unusedNode, defectFits, wellFormed}
+use Rattle.window.specs.declared.Stage.{Stage}
+use Rattle.window.specs.declared.Stage.the-variants.{Rest}
+use Rattle.closure.specs.Lists.{all-over, all-drop, getD-same, other}
+use Rattle.closure.specs.Sized.{Sized, size-le}
+use Rattle.closure.specs.Facts.{own-lt, Fits, Slot, Facts, centre, formed}
+use Rattle.closure.specs.After.{fresh-at}
+
+-- a cluster of its own fits in every stage
+pub alone-fits : (T : Table) (stage : Stage) (h d : ℕ) → Ranged h d → (g : ℕ) → g < nodesOf h d → (x : Bool) → defectFits d (placeAt h d g) x ≡ true
+    → Fits T stage h d (placeAt h d g) (alone (numberOf h d (placeAt h d g)) x)
+alone-fits T stage h d r g l x e = record { mark = lt-ltb _ _ (own-lt h d r g l); pointer = centre refl; defect = e }
+
+no-defect : (b : Bool) → not (b && false) ≡ true
+no-defect true = refl
+no-defect false = refl
+
+-- an empty slot, with an edge or without
+pub empty : (there : Bool) (n : ℕ) (c : Bool) → n ≡ 0 → c ≡ false → Slot there n c
+empty there n c e f = record { most = omega arith; used = other there (isEmpty n && not c) (rw (e, f)) }
+
+module _ (T : Table) (sh : Shape) (e : inRange (sh .height) (sh .distance) ≡ true) where
+  fresh-facts : Facts T (freshWindow sh)
+  unfolding freshWindow
+  fresh-facts =
+      let h = sh .height in
+      let d = sh .distance in
+      let r = ranged h d e in
+      record {
+        ranged = r;
+        next = omega arith;
+        nodes = λ g l. rw (fresh-at sh g l) (alone-fits T Rest h d r g l false (no-defect (boundary d (placeAt h d g .column))));
+        slots = λ g kind l m. empty _ _ _ (getD-same {A = ℕ} 0 10800 (T .kinds * g + kind)) (getD-same false 10800 (T .kinds * g + kind));
+        unusedNodes = all-over unusedNode (λ i. alone (numberOf h d (placeAt h d i)) false) (nodesOf h d) (replicate 3600 unused) (all-drop unusedNode unused refl (nodesOf h d) 3600);
+        unusedGrowth = all-drop {A = ℕ} isEmpty 0 refl (T .kinds * nodesOf h d) 10800;
+        unusedCorrection = all-drop not false refl (T .kinds * nodesOf h d) 10800;
+      }
+
+  pub fresh : wellFormed T (freshWindow sh) ≡ true
+  fresh = formed T (freshWindow sh) fresh-facts
+
+pub fresh-sized : (sh : Shape) → Sized (freshWindow sh)
+unfolding freshWindow
+fresh-sized sh =
+    let h = sh .height in
+    let d = sh .distance in
+    let n = length-replicate 3600 unused in
+    record {
+      nodes = length-over (λ i. alone (numberOf h d (placeAt h d i)) false) (replicate 3600 unused) (nodesOf h d) (rw n (size-le (freshWindow sh))) ∙ n;
+      growth = length-replicate {A = ℕ} 10800 0;
+      correction = length-replicate 10800 false;
+    }

@@ -1,0 +1,17 @@
+pub mod Lists
+pub mod States
+pub mod Sized
+pub mod Suited
+pub mod Edges
+pub mod Facts
+pub mod Sight
+pub mod After
+pub mod Lower
+pub mod Scan
+pub mod Fresh
+pub mod Round
+pub mod Grow
+pub mod Merging
+pub mod Run
+pub mod Done
+pub mod Closure

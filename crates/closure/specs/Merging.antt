@@ -1,0 +1,159 @@
+-- MERGING keeps a window well-formed. Assumes nothing.
+use Prim.Native.Nat.{ℕ, _+_, _-_, _*_, _≤_, _<_}
+use native.Mathlib.Omega.{arith}
+use mathlib.Core.Path.{_≡_, refl, sym, _∙_, ap}
+use mathlib.Core.Bool.{Bool, true, false, _&&_, not}
+use mathlib.Core.List.{List}
+use mathlib.Core.Logic.{⊎-elim}
+use borrow.Author.Tests.{ltb-true, lt-ltb}
+use lib.ListN.{length, getD}
+use Rattle.refusal.specs.Laws.{undone}
+use Rattle.shape.specs.Choice.{if, if-false, tell}
+use Rattle.shape.specs.Ranges.{halves}
+use Rattle.shape.specs.Sizes.{sheetsOf, boundary, nodesIn}
+use Rattle.shape.specs.Nodes.{numberOf}
+use Rattle.shape.specs.Steps.{Table}
+use Rattle.window.specs.Lists.{byPlace, any, xor}
+use Rattle.window.specs.Window.{isRest, isMerging, namer, size, at, place, detector, to}
+use Rattle.window.specs.Merging.{syncedDefect, flipped, floods, stepped, seen, stepAt, flippedSlot, merged}
+use Rattle.window.specs.Formed.{markFits, unusedNode, wellFormed}
+use Rattle.window.specs.declared.Mark.{Mark}
+use Rattle.window.specs.declared.Mark.the-variants.{Reset, Root}
+use Rattle.window.specs.declared.Stage.{Stage}
+use Rattle.window.specs.declared.Stage.the-variants.{Rest, Merging}
+use Rattle.window.specs.declared.Node.{Node}
+use Rattle.window.specs.declared.Seen.{Seen}
+use Rattle.window.specs.declared.Window.{Window}
+use Rattle.closure.specs.Lists.{all-over, any-at, either}
+use Rattle.closure.specs.States.{merging-not-grow}
+use Rattle.closure.specs.Sized.{Sized, nodes-over, correction-over}
+use Rattle.closure.specs.Suited.{Suited}
+use Rattle.closure.specs.Edges.{edge}
+use Rattle.closure.specs.Facts.{Pointing, centre, along, out, Fits, Slot, Facts, facts, formed, own-lt, node-within, SlotOf}
+use Rattle.closure.specs.Sight.{seen-edge, seen-there, seen-grown}
+use Rattle.closure.specs.After.{merged-at, flipped-slot}
+use Rattle.closure.specs.Scan.{Good, floods-good}
+
+-- MARKS
+
+mark-lt : (stage : Stage) (N : ℕ) (m : Mark) → markFits stage N m ≡ true → (v : ℕ) → m ≡ Root v → v < N
+mark-lt stage N Reset e v r = let z : _≡_ {A = ℕ} 0 1 = cc in absurd (omega arith)
+mark-lt stage N (Root m) e v r = let z : m ≡ v = cc in rw (← z) (ltb-true m N e)
+
+mark-by : (stage : Stage) (N : ℕ) (m : Mark) → (m ≡ Reset → isMerging stage ≡ true) → ((v : ℕ) → m ≡ Root v → v < N) → markFits stage N m ≡ true
+mark-by stage N Reset p q = p refl
+mark-by stage N (Root m) p q = lt-ltb m N (q m refl)
+
+-- DEFECTS: on a boundary nothing is sent, and nothing arrives
+
+still : (d : Bool) → not d ≡ true → not (xor (xor d false) false) ≡ true
+still false e = refl
+still true e = e
+
+synced : (b : Bool) (n : Node) (ss : List Seen) → not (b && n .defect) ≡ true → not (b && syncedDefect (not b) n ss) ≡ true
+synced false n ss e = refl
+synced true n ss e = still (n .defect) e
+
+-- stage merging, or rest
+merging-or-rest : (b : Bool) → b ≡ true → isMerging (if b Merging Rest) ≡ true
+merging-or-rest b e = rw e
+
+module _ (T : Table) (w : Window) where
+  abbrev after : Stage
+  after = if (any (size w) (λ g. stepAt T w g .busy)) Merging Rest
+
+  -- an edge of growth 2 is one
+  grown-there : (g k : ℕ) → seen T w g k .grown ≡ true → to w T (k + 1) g .there ≡ true
+  grown-there g k e = halves _ _ (sym (seen-grown T w g k) ∙ e) .0
+
+  module _ (f : Facts T w) (st : isMerging (w .stage) ≡ true) where
+    abbrev h : ℕ
+    h = w .shape .height
+
+    abbrev d : ℕ
+    d = w .shape .distance
+
+    abbrev numbers : ℕ
+    numbers = nodesIn h d (sheetsOf d + 1)
+
+    module _ (g : ℕ) (l : g < size w) where
+      abbrev P : ℕ → Type 0
+      P p = Pointing T after h d (place w g) p
+
+      stays : (p : ℕ) → Pointing T (w .stage) h d (place w g) p → P p
+      stays p (centre e) = centre e
+      stays p (along j) = along j
+      stays p (out a b c e) = absurd (merging-not-grow (w .stage) st a)
+
+      to-seen : (k : ℕ) → seen T w g k .grown ≡ true → P (k + 1)
+      to-seen k e = along (edge T h d (sheetsOf d) (k + 1) (place w g) (grown-there g k e))
+
+      seen-mark : (k v : ℕ) → seen T w g k .grown ≡ true → seen T w g k .mark ≡ Root v → v < numbers
+      seen-mark k v e m =
+          let t = grown-there g k e in
+          let way = to w T (k + 1) g in
+          mark-lt (w .stage) numbers (at w (way .node) .mark) (f .nodes (way .node) (node-within T w (f .ranged) (k + 1) g t) .mark) v
+          (sym (ap (λ (s : Seen). s .mark) (seen-edge T w g k t)) ∙ m)
+
+      good : Good P numbers (floods (numberOf h d (place w g)) (at w g .unrooted) (at w g .pointer) (at w g .mark) (byPlace (length (T .steps)) (seen T w g)))
+      good =
+          let n = f .nodes g l in
+          floods-good P numbers (centre refl) (seen T w g) to-seen seen-mark (numberOf h d (place w g)) (at w g .unrooted) (at w g .pointer) (at w g .mark) (length (T .steps))
+          (own-lt h d (f .ranged) g l)
+          (stays (at w g .pointer) (n .pointer))
+          (mark-lt (w .stage) numbers (at w g .mark) (n .mark))
+
+      node-fits : Fits T after h d (place w g) (at (merged T w) g)
+      unfolding stepAt stepped
+      node-fits =
+          rw (merged-at T w g l)
+          (record {
+            mark = mark-by after numbers _ (λ e. merging-or-rest _ (any-at (λ i. stepAt T w i .busy) (size w) g l (either _ _ (either _ _ (good .reset e))))) (good .marked);
+            pointer = good .pointer;
+            defect = synced (boundary d (place w g .column)) (at w g) (byPlace (length (T .steps)) (seen T w g)) (f .nodes g l .defect);
+          })
+
+    -- SLOTS: flipped only where there is an edge
+
+    flipped-fits : (g p growth : ℕ) (old : Bool) → 1 ≤ p → Slot (to w T p g .there) growth old
+        → Slot (to w T p g .there) growth (flipped old (detector w g) (at w g) p (seen T w g (p - 1)))
+    flipped-fits g p growth old l s =
+        let x : p - 1 + 1 ≡ p = omega arith in
+        ⊎-elim (λ e. record { most = s .most; used = either _ _ e })
+        (λ e. rw (if-false (seen T w g (p - 1) .there) _ old (seen-there T w g (p - 1) ∙ ap (λ (i : ℕ). to w T i g .there) x ∙ e)) s)
+        (tell (to w T p g .there))
+
+    slot-fits : Suited T → (g kind : ℕ) → g < size w → kind < T .kinds → SlotOf T w g kind (w .growth) (merged T w .correction)
+    slot-fits S g kind l m =
+        let e = T .kinds * g + kind in
+        rw (flipped-slot T w g kind l m)
+        (flipped-fits g (namer T kind) (getD (w .growth) e 0) (getD (w .correction) e false) (S .named kind m) (f .slots g kind l m))
+
+    merged-facts : Suited T → Facts T (merged T w)
+    unfolding merged
+    merged-facts S =
+        record {
+          ranged = f .ranged;
+          next = f .next;
+          nodes = node-fits;
+          slots = slot-fits S;
+          unusedNodes = all-over unusedNode (λ i. stepAt T w i .node) (size w) (w .nodes) (f .unusedNodes);
+          unusedGrowth = f .unusedGrowth;
+          unusedCorrection = all-over not (flippedSlot T w) (T .kinds * size w) (w .correction) (f .unusedCorrection);
+        }
+
+  pub merging : Suited T → wellFormed T w ≡ true → isMerging (w .stage) ≡ true → wellFormed T (merged T w) ≡ true
+  merging S e st = formed T (merged T w) (merged-facts (facts T w e) st S)
+
+  pub merging-sized : T .kinds ≤ 3 → Sized w → Sized (merged T w)
+  unfolding merged
+  merging-sized l s = record { nodes = nodes-over w s (λ i. stepAt T w i .node); growth = s .growth; correction = correction-over w s (T .kinds) l (flippedSlot T w) }
+
+  -- a merging step ends in stage merging or at rest
+  pub merging-stage : isRest (merged T w .stage) ≡ false → isMerging (merged T w .stage) ≡ true
+  unfolding merged
+  merging-stage = go (any (size w) (λ g. stepAt T w g .busy))
+    where
+      go : (b : Bool) → isRest (if b Merging Rest) ≡ false → isMerging (if b Merging Rest) ≡ true
+      go true e = refl
+      go false e = absurd (undone e)

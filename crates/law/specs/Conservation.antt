@@ -1,0 +1,18 @@
+-- THE CONSERVATION CLAUSE is kept by the rules. Assumes nothing.
+use Rattle.shape.specs.Steps.{Table}
+use Rattle.closure.specs.Suited.{Suited}
+use Rattle.closure.specs.Facts.{facts}
+use Rattle.law.specs.Law.{Conserved}
+use Rattle.law.specs.Rules.{Invariant}
+use Rattle.law.specs.ConservedGrow.{conserved-grow}
+use Rattle.law.specs.Layered.{Layered}
+use Rattle.law.specs.ConservedRound.{conserved-round}
+use Rattle.law.specs.ConservedMerging.{conserved-merging}
+
+pub conserved : (T : Table) → Suited T → Layered T → Invariant T (Conserved T)
+conserved T S L =
+    record {
+      round = λ p bytes k st bits c. conserved-round T S L p bytes (facts T (p .window) (k .formed) .ranged) bits c;
+      grow = λ p k st c. conserved-grow T p c;
+      merging = λ p k st c. conserved-merging T S L p (facts T (p .window) (k .formed)) st c;
+    }

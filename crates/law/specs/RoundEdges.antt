@@ -1,0 +1,166 @@
+-- ROUND changes no correction bit of a layer already received: those of the bottom layer go to the edge buffer. Assumes nothing.
+use Prim.Native.Nat.{ℕ, _+_, _-_, _≤_, _<_}
+use native.Mathlib.Omega.{arith}
+use mathlib.Core.Path.{_≡_, refl, sym, _∙_, ap, ap₂}
+use mathlib.Core.Bool.{Bool, true, false, _&&_}
+use mathlib.Core.List.{List}
+use mathlib.Core.Logic.{⊎-elim}
+use borrow.Author.Tests.{eq-eqb}
+use lib.Dec.{eqb}
+use lib.ListN.{length, getD}
+use Rattle.shape.specs.Choice.{tell, order}
+use Rattle.shape.specs.Ranges.{Ranged}
+use Rattle.shape.specs.Sizes.{layerEdgesOf}
+use Rattle.shape.specs.Steps.{Table, goes}
+use Rattle.shape.specs.Joins.{Clear}
+use Rattle.shape.specs.Layer.{edgeOf}
+use Rattle.shape.specs.LawsEdge.{nodeOf}
+use Rattle.window.specs.Lists.{bit}
+use Rattle.window.specs.LawsLists.{getD-by, and-no, and-not}
+use Rattle.window.specs.Round.{edgeSlot, rounded, committed as leaving}
+use Rattle.closure.specs.Lists.{other}
+use Rattle.closure.specs.Suited.{Suited}
+use Rattle.law.specs.Law.{Played, Receipt, Spot, ends, height, distance, sheets, last, receipt, pending}
+use Rattle.law.specs.Rules.{taken}
+use Rattle.law.specs.Bits.{refuted, bit-one}
+use Rattle.law.specs.LowerSlots.{slot-new, slot-old}
+use Rattle.law.specs.Spots.{ends-at}
+use Rattle.law.specs.Receipts.{old-receipt, new-receipt, counts, lower-than, three}
+use Rattle.law.specs.Conserved.{edged, slotOf, corrected, left-edge, held-edge}
+use Rattle.law.specs.Layered.{Layered}
+use Rattle.law.specs.LayerEdges.{way, way-opposed, edged-in, edged-clear, named-inside}
+
+module _ (T : Table) (S : Suited T) (L : Layered T) (p : Played) (bytes : List ℕ) (r : Ranged (height p) (distance p)) where
+  abbrev after : Played
+  after = taken T p bytes
+
+  abbrev count : ℕ
+  count = length (p .receipts)
+
+  abbrev h : ℕ
+  h = height p
+
+  abbrev d : ℕ
+  d = distance p
+
+  abbrev s : ℕ
+  s = sheets p
+
+  module _ (n i : ℕ) (l : i < layerEdgesOf h d) where
+    abbrev kind : ℕ
+    kind = edgeOf h d i .kind
+
+    kind-lt : kind < T .kinds
+    kind-lt = L .kind h d i r l
+
+    -- a layer that left before
+    edge-left : n < count → corrected T after n i ≡ corrected T p n i
+    unfolding rounded
+    edge-left m =
+        let e = counts T p bytes in
+        let m' : n < length (after .receipts) = omega arith in
+        left-edge T after n i m' ∙ ap (λ (x : Receipt). eqb (getD (x .edges) i 0) 1) (old-receipt T p bytes n m) ∙ sym (left-edge T p n i m)
+
+    abbrev bottomBit : Bool
+    bottomBit = getD (p .window .correction) (edgeSlot T h d (s - 1) (edgeOf h d i)) false
+
+    -- the bottom layer: pending before, committed after
+    bottom-after : n ≡ count → corrected T after n i ≡ bottomBit
+    unfolding rounded leaving
+    bottom-after e =
+        let c = counts T p bytes in
+        let m : n < length (after .receipts) = omega arith in
+        left-edge T after n i m
+        ∙ ap (λ (x : Receipt). eqb (getD (x .edges) i 0) 1) (ap (λ (k : ℕ). receipt after k) e ∙ new-receipt T p bytes)
+        ∙ ap (λ (x : ℕ). eqb x 1) (getD-by (λ k. bit (getD (p .window .correction) (edgeSlot T h d (s - 1) (edgeOf h d k)) false)) (layerEdgesOf h d) i 0 l)
+        ∙ bit-one bottomBit
+
+    bottom-before : n ≡ count → corrected T p n i ≡ bottomBit
+    bottom-before e =
+        let t = three p r in
+        let rise = way-opposed T S L h d i r l .rise in
+        let a : n ≤ last p = omega arith in
+        let b : last p - n < s = omega arith in
+        let c : Clear (way T h d i .sheet) (last p - n) = omega (arith, rise) in
+        let j : last p - n ≡ s - 1 = omega arith in
+        let g : count ≤ n = omega arith in
+        held-edge T p n i g
+        ∙ ap (λ (b : Bool). b && getD (p .window .correction) (slotOf T p n i) false) (edged-in T L p r n i l a b c)
+        ∙ ap (λ (k : ℕ). getD (p .window .correction) (edgeSlot T h d k (edgeOf h d i)) false) j
+
+    -- a layer of the window, above the bottom one
+    module _ (low : count < n) (high : n ≤ last p) where
+      abbrev j : ℕ
+      j = last p - n
+
+      lower-by : last after - n ≡ j + 1
+      lower-by = lower-than T p bytes n high
+
+      stays-clear : Clear (way T h d i .sheet) j → pending T after n i ≡ pending T p n i
+      unfolding rounded
+      stays-clear c =
+          let t = three p r in
+          let e = counts T p bytes in
+          let b : j < s = omega arith in
+          let a' : n ≤ last after = omega arith in
+          let b' : last after - n < s = omega arith in
+          let c' : Clear (way T h d i .sheet) (last after - n) = omega arith in
+          let m : j + 1 < s = omega arith in
+          ap₂ (λ (x : Bool) (k : ℕ). x && getD (after .window .correction) (edgeSlot T h d k (edgeOf h d i)) false) (edged-in T L after r n i l a' b' c') lower-by
+          ∙ slot-old T (p .window) r false (p .window .correction) kind kind-lt (nodeOf j (edgeOf h d i)) (named-inside T S L h d i r l s (j + 1) m) c
+          ∙ sym (ap (λ (x : Bool). x && getD (p .window .correction) (slotOf T p n i) false) (edged-in T L p r n i l high b c))
+
+      stays-top : j + way T h d i .sheet .more < way T h d i .sheet .less → pending T after n i ≡ pending T p n i
+      unfolding rounded
+      stays-top c =
+          let t = three p r in
+          let m : j + 1 < s = omega arith in
+          let z : goes (way T h d i .sheet) (j + 1) ≡ 0 = omega arith in
+          and-no (edged T after n i) _
+          (ap (λ (k : ℕ). getD (after .window .correction) (edgeSlot T h d k (edgeOf h d i)) false) lower-by
+          ∙ slot-new T (p .window) r false (p .window .correction) kind kind-lt (nodeOf (j + 1) (edgeOf h d i)) (named-inside T S L h d i r l s (j + 1) m) (other (eqb (j + 1) 0) _ (eq-eqb _ 0 z)))
+          ∙ sym (and-not (edged T p n i) _ (refuted (edged T p n i) (λ x. let y = edged-clear T p n i x in omega arith)))
+
+      edge-stays : corrected T after n i ≡ corrected T p n i
+      edge-stays =
+          let e = counts T p bytes in
+          held-edge T after n i (omega arith) ∙ ⊎-elim stays-top stays-clear (order (j + way T h d i .sheet .more) (way T h d i .sheet .less)) ∙ sym (held-edge T p n i (omega arith))
+
+    -- no bit of a layer already received changes
+    pub old-edge : n ≤ last p → corrected T after n i ≡ corrected T p n i
+    old-edge m =
+        ⊎-elim edge-left
+        (λ x. ⊎-elim (λ y. edge-stays y m) (λ y. let e : n ≡ count = omega arith in bottom-after e ∙ sym (bottom-before e)) (order count n))
+        (order n count)
+
+    -- the new layer has none
+    pub new-edge : n ≡ last p + 1 → corrected T after n i ≡ false
+    unfolding rounded
+    new-edge e =
+        let c = counts T p bytes in
+        let t = three p r in
+        let g : length (after .receipts) ≤ n = omega arith in
+        let z : last after - n ≡ 0 = omega arith in
+        let o : 0 < s = omega arith in
+        held-edge T after n i g
+        ∙ and-no (edged T after n i) _
+        (ap (λ (k : ℕ). getD (after .window .correction) (edgeSlot T h d k (edgeOf h d i)) false) z
+        ∙ slot-new T (p .window) r false (p .window .correction) kind kind-lt (nodeOf 0 (edgeOf h d i)) (named-inside T S L h d i r l s 0 o) refl)
+
+-- nothing ends above the last round
+module _ (T : Table) (S : Suited T) (L : Layered T) (p : Played) (r : Ranged (height p) (distance p)) (n i : ℕ) (l : i < layerEdgesOf (height p) (distance p)) where
+  pub ends-below : (a : Spot) → a .round ≡ last p + 1 → n ≤ last p → (corrected T p n i && ends T n (edgeOf (height p) (distance p) i) a) ≡ false
+  ends-below a e m = ⊎-elim yes (λ x. and-no (corrected T p n i) _ x) (tell (ends T n (edgeOf (height p) (distance p) i) a))
+    where
+      no-bit : n + way T (height p) (distance p) i .sheet .less - way T (height p) (distance p) i .sheet .more ≡ a .round → corrected T p n i ≡ false
+      no-bit f =
+          let t = three p r in
+          let rise = way-opposed T S L (height p) (distance p) i r l .rise in
+          let g : length (p .receipts) ≤ n = omega (arith, rise) in
+          let top : Clear (way T (height p) (distance p) i .sheet) (last p - n) → ⊥ = λ x. omega (arith, rise) in
+          held-edge T p n i g ∙ and-not (edged T p n i) _ (refuted (edged T p n i) (λ x. top (edged-clear T p n i x)))
+
+      yes : ends T n (edgeOf (height p) (distance p) i) a ≡ true → (corrected T p n i && ends T n (edgeOf (height p) (distance p) i) a) ≡ false
+      yes x =
+          and-not (corrected T p n i) _
+          (⊎-elim (λ y. let z = ap (λ (b : Spot). b .round) y in absurd (omega arith)) (λ y. no-bit (ap (λ (b : Spot). b .round) y)) (ends-at T n (edgeOf (height p) (distance p) i) a x))

@@ -1,0 +1,67 @@
+-- DEMAND 3 HOLDS: the law after every list of calls. Assumes nothing.
+use Prim.Native.Nat.{_+_}
+use native.Mathlib.Omega.{arith}
+use mathlib.Core.Path.{_≡_, refl, subst}
+use mathlib.Core.List.{List}
+use mathlib.Core.Bool.{true}
+use Rattle.shape.specs.Sizes.{inRange}
+use Rattle.shape.specs.Steps.{Table, base}
+use Rattle.shape.specs.declared.Shape.{Shape}
+use Rattle.window.specs.Fresh.{freshWindow}
+use Rattle.window.specs.Round.{rounded}
+use Rattle.window.specs.Grow.{grown}
+use Rattle.window.specs.Merging.{merged}
+use Rattle.window.specs.declared.Window.{Window}
+use Rattle.closure.specs.Suited.{Suited, suited-base}
+use Rattle.closure.specs.Done.{started}
+use Rattle.closure.specs.Closure.{kept-fresh}
+use Rattle.law.specs.Law.{Played, Call, Law, Demand3, play, start, last, Conserved}
+use Rattle.law.specs.Rules.{Invariant}
+use Rattle.law.specs.Play.{playing}
+use Rattle.law.specs.Clusters.{Clustered, clustered-fresh, clustered, clustered-rested}
+use Rattle.law.specs.Receipts.{later}
+use Rattle.law.specs.ConservedFresh.{conserved-fresh}
+use Rattle.law.specs.Layered.{Layered, layered-base}
+use Rattle.law.specs.Conservation.{conserved}
+
+-- the shape stays, and the next round is the one after the last
+record Counted (sh : Shape) (p : Played) : Type 0 where
+  shape : p .window .shape ≡ sh
+  next : p .window .next ≡ last p + 1
+
+counted-fresh : (sh : Shape) → Counted sh (start (freshWindow sh))
+unfolding freshWindow
+counted-fresh sh = record { shape = refl; next = omega arith }
+
+counted : (T : Table) (sh : Shape) → Invariant T (Counted sh)
+unfolding rounded grown merged
+counted T sh =
+    record {
+      round = λ p bytes k st bits i. record { shape = i .shape; next = let n = i .next in let m = later T p bytes in omega arith };
+      grow = λ p k st i. record { shape = i .shape; next = i .next };
+      merging = λ p k st i. record { shape = i .shape; next = i .next };
+    }
+
+module _ (T : Table) (S : Suited T) (L : Layered T) where
+  law : (sh : Shape) → inRange (sh .height) (sh .distance) ≡ true → (calls : List Call) → Law T (freshWindow sh) (play T (start (freshWindow sh)) calls)
+  unfolding freshWindow
+  law sh e calls =
+      let p = start (freshWindow sh) in
+      let k = kept-fresh T sh e in
+      let a = playing T S (Conserved T) (conserved T S L) calls p k (conserved-fresh T sh e) in
+      let b = playing T S (Clustered T) (clustered T S) calls p k (clustered-fresh T sh) in
+      let c = playing T S (Counted sh) (counted T sh) calls p k (counted-fresh sh) in
+      record {
+        conserved = a .1;
+        rested = clustered-rested T S (play T p calls) (b .0) (b .1);
+        shape = c .1 .shape;
+        next = c .1 .next;
+      }
+
+  pub holds : Demand3 T
+  holds h d w n e calls =
+      let x = started h d w n e in
+      subst (λ (u : Window). Law T u (play T (start u) calls)) (x .value) (law (record { height = h; distance = d }) (x .ranged) calls)
+
+pub demand3 : Demand3 base
+demand3 = holds base suited-base layered-base

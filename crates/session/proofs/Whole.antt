@@ -1,0 +1,98 @@
+-- What a whole stream leaves: its header refused or without room, or its rounds behind it. Assumes nothing.
+use Prim.Native.Nat.{ℕ, _+_, _-_, _≤_}
+use native.Mathlib.Nat.{sub-zero, zero-add}
+use native.Mathlib.Omega.{arith}
+use mathlib.Core.Path.{_≡_, refl, sym, _∙_, ap, subst}
+use mathlib.Core.Bool.{Bool}
+use mathlib.Core.List.{List, _++_}
+use borrow.Author.Tests.{le-leb, leb-true}
+use lib.Dec.{leb}
+use lib.ListN.{length, drop, length-append}
+use Rattle.refusal.specs.Answer.{Answer, done, codeOf, andThen, itself}
+use Rattle.refusal.specs.Bytes.{Bytes}
+use Rattle.refusal.specs.Tests.{Passes}
+use Rattle.refusal.specs.Writing.{laid}
+use Rattle.refusal.specs.declared.Refusal.{Refusal}
+use Rattle.number.specs.Number.{toldWrote}
+use Rattle.number.specs.declared.Wrote.{Wrote}
+use Rattle.number.specs.declared.Wrote.the-variants as wroteTo
+use Rattle.shape.specs.Ranges.{halves}
+use Rattle.shape.specs.Sizes.{heightOk, distanceOk, shapeTests, shapeOf}
+use Rattle.shape.specs.Steps.{base}
+use Rattle.shape.specs.declared.Shape.{Shape}
+use Rattle.stream.specs.Calls.{toldHeader, placeTests, writeHeader}
+use Rattle.stream.specs.Fits.{InRange}
+use Rattle.stream.specs.Header.{header-writes}
+use Rattle.stream.specs.Records.{header, headerAt}
+use Rattle.stream.specs.declared.HeaderRead.{HeaderRead}
+use Rattle.stream.specs.declared.HeaderRead.the-variants as headerRead
+use Rattle.window.specs.Fresh.{freshWindow, noWindow}
+use Rattle.window.specs.Calls.{Answered, given, leaves, freshCall}
+use Rattle.window.specs.declared.Window.{Window}
+use Rattle.session.specs.Decoding.{Line, turnedBack, Rounds, rounds, Decoded, behind, decoded}
+use Rattle.session.specs.Answers.{Passed, passed, roundsLeave, resulted, into, decodeLeaves}
+use Rattle.session.specs.LawsTests.{hold-pass}
+use Rattle.session.specs.LawsDecoding.{decoded-turned, decoded-full, decoded-on}
+use Rattle.session.proofs.Laid.{laid-long, laid-more}
+use Rattle.session.proofs.Writers.{writer-full, writer-wrote}
+
+-- a shape in range has a fresh window
+fresh-is : (sh : Shape) → InRange sh → (a : Answer (Unit {0})) (v : Window) → given a v ≡ leaves (freshCall (sh .height) (sh .distance)) itself noWindow → v ≡ freshWindow sh
+unfolding freshCall
+fresh-is sh range a v e =
+    let h = halves (heightOk (sh .height)) (distanceOk (sh .distance)) range in
+    let f : shapeOf (sh .height) (sh .distance) ≡ done sh 0 = hold-pass (shapeTests (sh .height) (sh .distance)) (h .0, (h .1, tt)) Shape (done sh 0) in
+    ap (λ (x : Answered (Unit {0})). x .window) (e ∙ ap (λ (x : Answer Shape). leaves (andThen x (λ o n. done (freshWindow o) n)) itself noWindow) f)
+
+-- a header that was read, and the writing of it
+pub record Put (s old : List ℕ) (sh : Shape) (next : ℕ) (q : Wrote) (new : List ℕ) : Type 0 where
+  pub stream : Bytes s
+  pub read : headerAt s 0 ≡ done sh next
+  pub put : toldWrote q new ≡ writeHeader sh old 0
+
+module _ (s old : List ℕ) where
+  as-decoded : (x : Decoded) → decoded base s (length old) ≡ x → into x old ≡ decodeLeaves base s old
+  as-decoded x e = sym (ap (λ (y : Decoded). into y old) e)
+
+  pub header-refused : (r : HeaderRead) → toldHeader r ≡ headerAt s 0 → (f : Refusal) → r ≡ headerRead.Refused f → resulted (turnedBack (codeOf f)) 0 old ≡ decodeLeaves base s old
+  header-refused r read f z = as-decoded _ (decoded-turned base s (length old) f (sym read ∙ ap toldHeader z))
+
+  module _ (sh : Shape) (next : ℕ) (q : Wrote) (new : List ℕ) (p : Put s old sh next q new) where
+    range : InRange sh
+    range = header-writes s 0 sh next (p .stream) (p .read) .range
+
+    abbrev tests : List (Bool × ℕ)
+    tests = placeTests sh (length old) 0
+
+    pass : Passes tests
+    pass =
+        let h = halves (heightOk (sh .height)) (distanceOk (sh .distance)) range in
+        hold-pass tests (h .0, (h .1, (le-leb 0 (length old) (omega arith), tt)))
+
+    room : (t : Bool) → leb (length (header sh)) (length old - 0) ≡ t → leb (length (header sh)) (length old) ≡ t
+    room t e = subst (λ (n : ℕ). leb (length (header sh)) n ≡ t) (sub-zero (length old)) e
+
+    pub header-full : (f : Refusal) → q ≡ wroteTo.Not f → resulted (turnedBack (codeOf f)) 0 new ≡ decodeLeaves base s old
+    header-full f y =
+        let x = writer-full tests pass old 0 (header sh) new f (ap (λ (x : Wrote). toldWrote x new) (sym y) ∙ p .put) in
+        rw (x .code, x .buffer) (as-decoded _ (decoded-full base s (length old) sh next (p .read) (room _ (x .room))))
+
+    -- the rounds behind the header
+    pub rounds-behind : (to : ℕ) → q ≡ wroteTo.To to → (a : Answer (Unit {0})) (v : Window) → given a v ≡ leaves (freshCall (sh .height) (sh .distance)) itself noWindow
+        → (l : Line) (u : Window) (i count : ℕ) (last : List ℕ) → passed l u i count last ≡ roundsLeave base s v next new to → resulted l count last ≡ decodeLeaves base s old
+    rounds-behind to y a v fresh l u i count last made =
+        let x = writer-wrote tests pass old 0 (header sh) new to (ap (λ (x : Wrote). toldWrote x new) (sym y) ∙ p .put) in
+        let fits = leb-true (length (header sh)) (length old) (room _ (x .room)) in
+        let inside : 0 + length (header sh) ≤ length old = omega arith in
+        let long : length (laid old 0 (header sh)) ≡ length old = laid-long old 0 (header sh) inside in
+        let start : to ≡ length (header sh) = x .next ∙ zero-add (length (header sh)) in
+        let r : Rounds = rounds base s (length old) (freshWindow sh) next (length (header sh)) in
+        let all : List ℕ = header sh ++ r .output in
+        let on : passed l u i count last ≡ passed (r .line) (r .window) (r .next) (length (header sh) + length (r .output)) (laid (laid old 0 (header sh)) (length (header sh)) (r .output)) =
+        made ∙ rw (fresh-is sh range a v fresh, x .buffer, start, long) refl in
+        let line : l ≡ r .line = ap (λ (p : Passed). p .line) on in
+        let size : count ≡ length all = ap (λ (p : Passed). p .behind) on ∙ sym (length-append (header sh) (r .output)) in
+        let joined : laid (laid old 0 (header sh)) (length (header sh)) (r .output) ≡ laid old 0 all =
+        subst (λ (n : ℕ). laid (laid old 0 (header sh)) n (r .output) ≡ laid old 0 all) (zero-add (length (header sh))) (laid-more old 0 (header sh) inside (r .output)) in
+        let buffer : last ≡ all ++ drop (length all) old = ap (λ (p : Passed). p .buffer) on ∙ joined ∙ ap (λ (n : ℕ). all ++ drop n old) (zero-add (length all)) in
+        rw (line, size, buffer) (as-decoded _ (decoded-on base s (length old) sh next (p .read) (room _ (x .room))))

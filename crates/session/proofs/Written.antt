@@ -1,0 +1,83 @@
+-- What a round that was received and run leaves: spent, without room, or written. Assumes nothing.
+use Prim.Native.Nat.{ℕ, _-_, _≤_}
+use mathlib.Core.Path.{_≡_, refl, sym, _∙_, ap}
+use mathlib.Core.Bool.{Bool, true, false}
+use mathlib.Core.List.{List, [], _∷_, _++_}
+use borrow.Author.Tests.{le-leb, eq-eqb}
+use lib.ListN.{length}
+use Rattle.refusal.specs.Answer.{done, codeOf}
+use Rattle.refusal.specs.Tests.{Passes}
+use Rattle.refusal.specs.Writing.{writing}
+use Rattle.refusal.specs.declared.Refusal.{Refusal}
+use Rattle.number.specs.Number.{toldWrote}
+use Rattle.number.specs.declared.Wrote.{Wrote}
+use Rattle.number.specs.declared.Wrote.the-variants as wroteTo
+use Rattle.list.specs.Sheet.{areBits}
+use Rattle.shape.specs.Choice.{if, if-true, if-false}
+use Rattle.shape.specs.Ranges.{halves}
+use Rattle.shape.specs.Sizes.{heightOk, distanceOk, inRange}
+use Rattle.shape.specs.Steps.{base}
+use Rattle.stream.specs.Calls.{writeResult, asResult, placeTests, edgesTest, escapesTest}
+use Rattle.stream.specs.Records.{Result, result}
+use Rattle.window.specs.Round.{rounded, committed, escaped}
+use Rattle.window.specs.Run.{ran}
+use Rattle.window.specs.declared.Ran.{Ran}
+use Rattle.window.specs.declared.Window.{Window}
+use Rattle.session.specs.Decoding.{turnedBack, spent, budget, Recorded, stopped, written, recorded, turnOf}
+use Rattle.session.specs.Answers.{Left as Leaving, left, leaves, over, to}
+use Rattle.session.specs.LawsTests.{hold-pass}
+use Rattle.session.specs.LawsTurn.{committed-long, committed-bits, escaped-long, escaped-bits}
+use Rattle.session.proofs.Writers.{writer-full, writer-wrote}
+
+-- a round that came to rest, and the writing of its record
+pub record Put (w : Window) (old : List ℕ) (at : ℕ) (v : Ran) (r : Wrote) (new : List ℕ) : Type 0 where
+  pub range : inRange (w .shape .height) (w .shape .distance) ≡ true
+  pub inside : at ≤ length old
+  pub rest : v .rest ≡ true
+  pub edges : List ℕ
+  pub edges-are : edges ≡ committed base w
+  pub escapes : List ℕ
+  pub escapes-are : escapes ≡ escaped w
+  pub put : toldWrote r new ≡ writeResult (w .shape) (asResult edges escapes (v .count)) old at
+
+module _ (w : Window) (bytes : List ℕ) (next : ℕ) (old : List ℕ) (at : ℕ) (v : Ran) (as-run : v ≡ ran base budget (rounded base w bytes)) where
+  abbrev whole : Leaving
+  whole = leaves (recorded (length old - at) (done (turnOf base w bytes) next)) w old at
+
+  -- by what the run came to
+  abbrev out : Ran → Result
+  out x = record { edges = committed base w; escapes = escaped w; steps = x .count }
+
+  abbrev by : Ran → Recorded
+  by x = if (x .rest) (written (length old - at) (result (out x)) (x .window) next) (stopped spent)
+
+  by-run : leaves (by v) w old at ≡ whole
+  by-run = ap (λ (x : Ran). leaves (by x) w old at) as-run
+
+  pub round-spent : v .rest ≡ false → left (over spent) w old ≡ whole
+  round-spent e = sym (ap (λ (x : Recorded). leaves x w old at) (if-false _ _ _ e)) ∙ by-run
+
+  module _ (r : Wrote) (new : List ℕ) (p : Put w old at v r new) where
+    abbrev tests : List (Bool × ℕ)
+    tests = placeTests (w .shape) (length old) at ++ (edgesTest (w .shape) (committed base w) ∷ escapesTest (w .shape) (escaped w) ∷ (areBits (committed base w), 4) ∷ (areBits (escaped w), 4) ∷ [])
+
+    pass : Passes tests
+    pass =
+        let h = halves (heightOk (w .shape .height)) (distanceOk (w .shape .distance)) (p .range) in
+        hold-pass tests (h .0, (h .1, (le-leb _ _ (p .inside), (eq-eqb _ _ (committed-long base w), (eq-eqb _ _ (escaped-long w), (committed-bits base w, (escaped-bits w, tt)))))))
+
+    writes : toldWrote r new ≡ writing tests old at (result (out v))
+    writes = p .put ∙ rw (p .edges-are, p .escapes-are) refl
+
+    written-by : leaves (written (length old - at) (result (out v)) (v .window) next) w old at ≡ whole
+    written-by = sym (ap (λ (x : Recorded). leaves x w old at) (if-true _ _ _ (p .rest))) ∙ by-run
+
+    pub round-full : (f : Refusal) → r ≡ wroteTo.Not f → left (over (turnedBack (codeOf f))) w new ≡ whole
+    round-full f z =
+        let x = writer-full tests pass old at (result (out v)) new f (ap (λ (x : Wrote). toldWrote x new) (sym z) ∙ writes) in
+        rw (x .code, x .buffer) (sym (ap (λ (x : Recorded). leaves x w old at) (if-false _ _ _ (x .room)))) ∙ written-by
+
+    pub round-written : (behind : ℕ) → r ≡ wroteTo.To behind → left (to next behind) (v .window) new ≡ whole
+    round-written behind z =
+        let x = writer-wrote tests pass old at (result (out v)) new behind (ap (λ (x : Wrote). toldWrote x new) (sym z) ∙ writes) in
+        rw (x .next, x .buffer) (sym (ap (λ (x : Recorded). leaves x w old at) (if-true _ _ _ (x .room)))) ∙ written-by

@@ -1,0 +1,33 @@
+-- `session::decode_record` meets its contract: its end, a window that is not well-formed, or one that is. Assumes nothing.
+use mathlib.Core.Path.{sym, _∙_}
+use borrow.Author.Needs.{needs}
+use borrow.Author.Tests.{not-true, not-false}
+use Rattle.session.proofs.OneRecord.{record-end, record-bad}
+use Rattle.session.proofs.decode_record.Statement.{statement}
+use Rattle.session.proofs.decode_record.Tie as tie
+
+returns : tie.Need-returns
+returns c = let a = c .before .before .before .args in record-end (a .src .now) (a .w) (a .at) (a .out .now) (a .to) (c .if1 .taken)
+
+well-formed-requires : tie.Need-well-formed-requires
+well-formed-requires c κs = search needs
+
+returns-2 : tie.Need-returns-2
+returns-2 c =
+    let e = c .before .before in
+    let a = e .before .before .before .args in
+    record-bad (a .src .now) (a .w) (a .at) (a .out .now) (a .to) (e .if1 .left) (sym (c .before .well-formed .ensures) ∙ not-true _ (c .if2 .taken))
+
+decode-formed-requires : tie.Need-decode-formed-requires
+decode-formed-requires c κs = (sym (c .before .before .well-formed .ensures) ∙ not-false _ (c .before .if2 .left), c .before .before .before .if1 .left)
+
+same-length : tie.Need-same-length
+same-length c = search needs
+
+returns-3 : tie.Need-returns-3
+returns-3 c = c .before .before .decode-formed .ensures
+
+pub decode-record-spec : {M : Type 1} → statement M
+decode-record-spec =
+    tie.close
+    (tie.spec returns well-formed-requires returns-2 decode-formed-requires same-length returns-3)
