@@ -40,6 +40,7 @@ pub mod Around
 pub mod Pushed
 pub mod ConservedMerging
 pub mod Conservation
--- the proof, and the ends of an edge in plain numbers
+-- the proof, the ends of an edge in plain numbers, and why both count
 pub mod Theorem
 pub mod Plain
+pub mod OneEnd
