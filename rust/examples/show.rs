@@ -27,7 +27,7 @@ fn main() -> Result<(), Stop> {
     println!("{height} by {distance}, a window of {} rounds", sheet.sheets());
     let (mut edges, mut escapes) = (vec![0; shape.edges()], vec![0; shape.detectors()]);
     for left in 0.. {
-        match read_result(height, distance, &stream, at, &mut edges, &mut escapes) {
+        match read_result(height, distance, &stream, at, [&mut edges, &mut escapes]) {
             Ok(Done(steps, next)) => {
                 println!("round {} received, {steps} steps", left + sheet.sheets());
                 for edge in set(&edges) {

@@ -2,7 +2,7 @@
 //! The answers must be equal, and so must every byte of the buffers and of the guards around them.
 
 use crate::decoding::Decoded;
-use crate::streams::Answer;
+use crate::streams::{Answer, Done};
 use crate::{proved, streams};
 use std::fmt::Debug;
 
@@ -47,6 +47,29 @@ fn both<A: PartialEq + Debug, const N: usize>(
     (answer, ours.map(|mut lent| lent.room().to_vec()))
 }
 
+/// A reading at an offset, made by the call that answers the next offset and by the one that moves the offset it is
+/// lent: behind what was read, or nowhere.
+fn reading<V: PartialEq + Debug, const N: usize>(
+    at: usize,
+    rooms: [usize; N],
+    call: impl Fn() -> String,
+    expected: impl Fn([&mut [u8]; N]) -> Answer<V>,
+    read: impl FnOnce([&mut [u8]; N]) -> Answer<V>,
+    take: impl FnOnce(&mut usize, [&mut [u8]; N]) -> Answer<V>,
+) -> (Answer<V>, [Vec<u8>; N]) {
+    let moving = |out: [&mut [u8]; N]| {
+        let answer = expected(out);
+        let next = answer.as_ref().map_or(at, |&Done(_, next)| next);
+        (answer, next)
+    };
+    let taking = |out: [&mut [u8]; N]| {
+        let mut next = at;
+        (take(&mut next, out), next)
+    };
+    let _ = both(rooms, || format!("{}, moving the offset", call()), moving, taking);
+    both(rooms, &call, &expected, read)
+}
+
 pub fn read_number(src: &[u8], at: usize) -> Answer<u32> {
     let call = || format!("read_number {src:02x?} at {at}");
     both([], call, |[]| streams::read_number(src, at), |[]| proved::read_number(src, at)).0
@@ -83,8 +106,15 @@ pub fn write_list(bits: &[u8], room: usize, at: usize) -> (Answer<()>, Vec<u8>) 
 }
 
 pub fn read_header(src: &[u8], at: usize) -> Answer<(u32, u32)> {
-    let call = || format!("read_header {src:02x?} at {at}");
-    both([], call, |[]| streams::read_header(src, at), |[]| proved::read_header(src, at)).0
+    reading(
+        at,
+        [],
+        || format!("read_header {src:02x?} at {at}"),
+        |[]| streams::read_header(src, at),
+        |[]| proved::read_header(src, at),
+        |at, []| proved::take_header(src, at),
+    )
+    .0
 }
 
 pub fn write_header(h: u32, d: u32, room: usize, at: usize) -> (Answer<()>, Vec<u8>) {
@@ -98,11 +128,13 @@ pub fn write_header(h: u32, d: u32, room: usize, at: usize) -> (Answer<()>, Vec<
 }
 
 pub fn read_round(h: u32, d: u32, src: &[u8], at: usize, size: usize) -> (Answer<()>, Vec<u8>) {
-    let (answer, [defects]) = both(
+    let (answer, [defects]) = reading(
+        at,
         [size],
         || format!("read_round {h} by {d} {src:02x?} at {at} into {size}"),
         |[out]| streams::read_round(h, d, src, at, out),
         |[out]| proved::read_round(h, d, src, at, out),
+        |at, [out]| proved::take_round(h, d, src, at, out),
     );
     (answer, defects)
 }
@@ -119,24 +151,29 @@ pub fn write_round(h: u32, d: u32, defects: &[u8], room: usize, at: usize) -> (A
 
 /// `sizes` are those of the edge buffer and of the escape buffer, which come back in that order.
 pub fn read_result(h: u32, d: u32, src: &[u8], at: usize, sizes: [usize; 2]) -> (Answer<u32>, [Vec<u8>; 2]) {
-    both(
+    reading(
+        at,
         sizes,
         || format!("read_result {h} by {d} {src:02x?} at {at} into {sizes:?}"),
-        |[edges, escapes]| streams::read_result(h, d, src, at, edges, escapes),
-        |[edges, escapes]| proved::read_result(h, d, src, at, edges, escapes),
+        |lists| streams::read_result(h, d, src, at, lists),
+        |lists| proved::read_result(h, d, src, at, lists),
+        |at, lists| proved::take_result(h, d, src, at, lists),
     )
 }
 
 /// `lists` are the committed edges and the escaped defects.
 pub fn write_result(h: u32, d: u32, lists: [&[u8]; 2], steps: u32, room: usize, at: usize) -> (Answer<()>, Vec<u8>) {
-    let [edges, escapes] = lists;
     let (answer, [out]) = both(
         [room],
         || format!("write_result {h} by {d} {lists:?} {steps} into {room} at {at}"),
-        |[out]| streams::write_result(h, d, edges, escapes, steps, out, at),
-        |[out]| proved::write_result(h, d, edges, escapes, steps, out, at),
+        |[out]| streams::write_result(h, d, lists, steps, out, at),
+        |[out]| proved::write_result(h, d, lists, steps, out, at),
     );
     (answer, out)
+}
+
+pub fn scan_input(src: &[u8]) -> Answer<(u32, u32, usize)> {
+    both([], || format!("scan_input {src:02x?}"), |[]| streams::scan_input(src), |[]| proved::scan_input(src)).0
 }
 
 /// A whole stream into a buffer of `room` bytes, against what the second decoder made of it; the status.

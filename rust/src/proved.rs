@@ -85,6 +85,45 @@ extern "C" {
         at: usize,
         place: *mut usize,
     ) -> u8;
+    fn baizeridge_take_header(
+        src: *const u8,
+        src_len: usize,
+        at: *mut usize,
+        height: *mut u32,
+        distance: *mut u32,
+        place: *mut usize,
+    ) -> u8;
+    fn baizeridge_take_round(
+        height: u32,
+        distance: u32,
+        src: *const u8,
+        src_len: usize,
+        at: *mut usize,
+        defects: *mut u8,
+        defects_len: usize,
+        place: *mut usize,
+    ) -> u8;
+    fn baizeridge_take_result(
+        height: u32,
+        distance: u32,
+        src: *const u8,
+        src_len: usize,
+        at: *mut usize,
+        edges: *mut u8,
+        edges_len: usize,
+        escapes: *mut u8,
+        escapes_len: usize,
+        steps: *mut u32,
+        place: *mut usize,
+    ) -> u8;
+    fn baizeridge_scan_input(
+        src: *const u8,
+        src_len: usize,
+        height: *mut u32,
+        distance: *mut u32,
+        rounds: *mut usize,
+        place: *mut usize,
+    ) -> u8;
     fn baizeridge_decode(src: *const u8, src_len: usize, out: *mut u8, out_len: usize, written: *mut usize) -> u8;
     fn baizeridge_nodes(height: u32, distance: u32) -> usize;
     fn baizeridge_detectors(height: u32, distance: u32) -> usize;
@@ -123,6 +162,15 @@ fn answer<const N: usize>(call: impl FnOnce([*mut u32; N], *mut usize) -> u8) ->
         7..=9 => Err(Stop::RefusedAt(status, place)),
         _ => Err(Stop::Refused(status)),
     }
+}
+
+/// Lends a number between guards.
+fn lend<R>(number: &mut usize, call: impl FnOnce(*mut usize) -> R) -> R {
+    let mut lent = [PLACE, *number, PLACE];
+    let result = call(lent.as_mut_ptr().wrapping_add(1));
+    assert_eq!((lent[0], lent[2]), (PLACE, PLACE), "stored beside a lent number");
+    *number = lent[1];
+    result
 }
 
 fn alone(answer: Answer<[u32; 0]>) -> Answer<()> {
@@ -183,14 +231,7 @@ pub fn write_round(height: u32, distance: u32, defects: &[u8], out: &mut [u8], a
     }))
 }
 
-pub fn read_result(
-    height: u32,
-    distance: u32,
-    src: &[u8],
-    at: usize,
-    edges: &mut [u8],
-    escapes: &mut [u8],
-) -> Answer<u32> {
+pub fn read_result(height: u32, distance: u32, src: &[u8], at: usize, [edges, escapes]: [&mut [u8]; 2]) -> Answer<u32> {
     with_value(answer(|[steps], place| unsafe {
         baizeridge_read_result(
             height,
@@ -208,11 +249,11 @@ pub fn read_result(
     }))
 }
 
+/// The lists are the committed edges and the escaped defects.
 pub fn write_result(
     height: u32,
     distance: u32,
-    edges: &[u8],
-    escapes: &[u8],
+    [edges, escapes]: [&[u8]; 2],
     steps: u32,
     out: &mut [u8],
     at: usize,
@@ -234,11 +275,67 @@ pub fn write_result(
     }))
 }
 
+pub fn take_header(src: &[u8], at: &mut usize) -> Answer<(u32, u32)> {
+    let read = lend(at, |at| {
+        answer(|[height, distance], place| unsafe {
+            baizeridge_take_header(src.as_ptr(), src.len(), at, height, distance, place)
+        })
+    });
+    read.map(|Done([height, distance], next)| Done((height, distance), next))
+}
+
+pub fn take_round(height: u32, distance: u32, src: &[u8], at: &mut usize, defects: &mut [u8]) -> Answer<()> {
+    let (to, to_len) = (defects.as_mut_ptr(), defects.len());
+    alone(lend(at, |at| {
+        answer(|[], place| unsafe {
+            baizeridge_take_round(height, distance, src.as_ptr(), src.len(), at, to, to_len, place)
+        })
+    }))
+}
+
+pub fn take_result(
+    height: u32,
+    distance: u32,
+    src: &[u8],
+    at: &mut usize,
+    [edges, escapes]: [&mut [u8]; 2],
+) -> Answer<u32> {
+    with_value(lend(at, |at| {
+        answer(|[steps], place| unsafe {
+            baizeridge_take_result(
+                height,
+                distance,
+                src.as_ptr(),
+                src.len(),
+                at,
+                edges.as_mut_ptr(),
+                edges.len(),
+                escapes.as_mut_ptr(),
+                escapes.len(),
+                steps,
+                place,
+            )
+        })
+    }))
+}
+
+/// Height, distance and the count of rounds.
+pub fn scan_input(src: &[u8]) -> Answer<(u32, u32, usize)> {
+    let mut rounds = PLACE;
+    let read = lend(&mut rounds, |rounds| {
+        answer(|[height, distance], place| unsafe {
+            baizeridge_scan_input(src.as_ptr(), src.len(), height, distance, rounds, place)
+        })
+    });
+    assert!(read.is_ok() || rounds == PLACE, "{read:?}: a count was stored");
+    read.map(|Done([height, distance], next)| Done((height, distance, rounds), next))
+}
+
 /// The status, and the length of the result stream, which is stored in every case.
 pub fn decode(src: &[u8], out: &mut [u8]) -> (u8, usize) {
-    let mut written = [PLACE; 3];
-    let place = written.as_mut_ptr().wrapping_add(1);
-    let status = unsafe { baizeridge_decode(src.as_ptr(), src.len(), out.as_mut_ptr(), out.len(), place) };
-    assert_eq!((written[0], written[2]), (PLACE, PLACE), "status {status}: stored beside an out-parameter");
-    (status, written[1])
+    let mut written = PLACE;
+    let status = lend(&mut written, |written| unsafe {
+        baizeridge_decode(src.as_ptr(), src.len(), out.as_mut_ptr(), out.len(), written)
+    });
+    (status, written)
 }

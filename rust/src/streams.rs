@@ -117,14 +117,7 @@ pub fn read_round(height: u32, distance: u32, src: &[u8], at: usize, defects: &m
 }
 
 /// The value is the count of merging steps.
-pub fn read_result(
-    height: u32,
-    distance: u32,
-    src: &[u8],
-    at: usize,
-    edges: &mut [u8],
-    escapes: &mut [u8],
-) -> Answer<u32> {
+pub fn read_result(height: u32, distance: u32, src: &[u8], at: usize, [edges, escapes]: [&mut [u8]; 2]) -> Answer<u32> {
     let shape = Shape::new(height, distance)?;
     turned_back(at > src.len(), 10)?;
     turned_back(edges.len() != shape.edges(), 5)?;
@@ -138,6 +131,20 @@ pub fn read_result(
     edges.copy_from_slice(&committed);
     escapes.copy_from_slice(&escaped);
     Ok(Done(steps, next))
+}
+
+/// A whole input stream: its height, its distance and how many rounds it has.
+pub fn scan_input(src: &[u8]) -> Answer<(u32, u32, usize)> {
+    let Done((height, distance), mut at) = read_header(src, 0)?;
+    let mut defects = vec![0; Shape::new(height, distance)?.detectors()];
+    let mut rounds = 0;
+    loop {
+        match read_round(height, distance, src, at, &mut defects) {
+            Ok(Done((), next)) => (rounds, at) = (rounds + 1, next),
+            Err(End) => return Ok(Done((height, distance, rounds), at)),
+            Err(refused) => return Err(refused),
+        }
+    }
 }
 
 // Writers
@@ -194,11 +201,11 @@ pub fn write_round(height: u32, distance: u32, defects: &[u8], out: &mut [u8], a
     write_list(defects, out, at)
 }
 
+/// The lists are the committed edges and the escaped defects.
 pub fn write_result(
     height: u32,
     distance: u32,
-    edges: &[u8],
-    escapes: &[u8],
+    [edges, escapes]: [&[u8]; 2],
     steps: u32,
     out: &mut [u8],
     at: usize,

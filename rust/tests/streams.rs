@@ -1,6 +1,7 @@
 //! Whole streams, from the header to the end, on the archive alone.
 
 use baizeridge_tests::cases::{each_case, shapes, STREAMS};
+use baizeridge_tests::compare::scan_input;
 use baizeridge_tests::proved;
 use baizeridge_tests::random::Random;
 use baizeridge_tests::streams::{number_bytes, Done, Shape, Stop};
@@ -8,9 +9,15 @@ use baizeridge_tests::streams::{number_bytes, Done, Shape, Stop};
 /// A kind of stream: what a record holds, and how the archive reads and writes one.
 trait Record: Sized + Clone + PartialEq + std::fmt::Debug {
     fn random(shape: Shape, random: &mut Random) -> Self;
-    fn read(h: u32, d: u32, src: &[u8], at: usize) -> Result<Done<Self>, Stop>;
+    fn take(h: u32, d: u32, src: &[u8], at: &mut usize) -> Result<Self, Stop>;
     fn write(&self, h: u32, d: u32, out: &mut [u8], at: usize) -> Result<Done<()>, Stop>;
+
+    /// Where the archive has a call for whole streams of the kind: it finds what reading record by record finds.
+    fn counted(_src: &[u8], _read: &Read<Self>) {}
 }
+
+/// A whole stream's height, distance and records, or why it is refused.
+type Read<R> = Result<(u32, u32, Vec<R>), Stop>;
 
 fn detectors(h: u32, d: u32) -> Result<usize, Stop> {
     Ok(Shape::new(h, d)?.detectors())
@@ -26,14 +33,22 @@ impl Record for Input {
         Input { defects: random.bits(shape.detectors()) }
     }
 
-    fn read(h: u32, d: u32, src: &[u8], at: usize) -> Result<Done<Input>, Stop> {
+    fn take(h: u32, d: u32, src: &[u8], at: &mut usize) -> Result<Input, Stop> {
         let mut defects = vec![9; detectors(h, d)?];
-        let Done((), next) = proved::read_round(h, d, src, at, &mut defects)?;
-        Ok(Done(Input { defects }, next))
+        proved::take_round(h, d, src, at, &mut defects)?;
+        Ok(Input { defects })
     }
 
     fn write(&self, h: u32, d: u32, out: &mut [u8], at: usize) -> Result<Done<()>, Stop> {
         proved::write_round(h, d, &self.defects, out, at)
+    }
+
+    fn counted(src: &[u8], read: &Read<Input>) {
+        let found = scan_input(src).map(|Done(found, end)| (found, end));
+        assert_eq!(
+            found,
+            read.as_ref().map(|(h, d, rounds)| ((*h, *d, rounds.len()), src.len())).map_err(|&stop| stop)
+        );
     }
 }
 
@@ -50,30 +65,34 @@ impl Record for Output {
         Output { edges, escapes, steps: random.number() }
     }
 
-    fn read(h: u32, d: u32, src: &[u8], at: usize) -> Result<Done<Output>, Stop> {
+    fn take(h: u32, d: u32, src: &[u8], at: &mut usize) -> Result<Output, Stop> {
         let (mut edges, mut escapes) = (vec![9; Shape::new(h, d)?.edges()], vec![9; detectors(h, d)?]);
-        let Done(steps, next) = proved::read_result(h, d, src, at, &mut edges, &mut escapes)?;
-        Ok(Done(Output { edges, escapes, steps }, next))
+        let Done(steps, _) = proved::take_result(h, d, src, at, [&mut edges, &mut escapes])?;
+        Ok(Output { edges, escapes, steps })
     }
 
     fn write(&self, h: u32, d: u32, out: &mut [u8], at: usize) -> Result<Done<()>, Stop> {
-        proved::write_result(h, d, &self.edges, &self.escapes, self.steps, out, at)
+        proved::write_result(h, d, [&self.edges, &self.escapes], self.steps, out, at)
     }
 }
 
-/// A stream read to its end, or why not.
-fn read_all<R: Record>(src: &[u8]) -> Result<(u32, u32, Vec<R>), Stop> {
-    let Done((h, d), mut at) = proved::read_header(src, 0)?;
+/// A stream read to its end, or why not; the offset moves from record to record, and stays where reading stops.
+fn read_all<R: Record>(src: &[u8]) -> Read<R> {
+    let mut at = 0;
+    let Done((h, d), _) = proved::take_header(src, &mut at)?;
     let mut records = vec![];
     loop {
-        match R::read(h, d, src, at) {
-            Ok(Done(record, next)) => {
-                assert!(at < next && next <= src.len());
+        let from = at;
+        match R::take(h, d, src, &mut at) {
+            Ok(record) => {
+                assert!(from < at && at <= src.len());
                 records.push(record);
-                at = next;
             }
-            Err(Stop::End) => return Ok((h, d, records)),
-            Err(stop) => return Err(stop),
+            Err(stop) => {
+                assert_eq!(at, from);
+                assert!((stop == Stop::End) == (at == src.len()));
+                return if stop == Stop::End { Ok((h, d, records)) } else { Err(stop) };
+            }
         }
     }
 }
@@ -121,7 +140,9 @@ fn an_accepted_stream_is_written_alike<R: Record>(seed: u64) {
             let rounds: Vec<R> = (0..random.below(5)).map(|_| R::random(shape, random)).collect();
             random.damaged(&write_all(h, d, &rounds, 12_000).expect("the room is enough"))
         };
-        let Ok((h, d, records)) = read_all::<R>(&src) else {
+        let read = read_all::<R>(&src);
+        R::counted(&src, &read);
+        let Ok((h, d, records)) = read else {
             refused += 1;
             return;
         };
@@ -150,4 +171,16 @@ fn accepted_input_is_written_alike() {
 #[test]
 fn accepted_results_are_written_alike() {
     an_accepted_stream_is_written_alike::<Output>(0x7074_6564);
+}
+
+#[test]
+fn whole_inputs_are_counted() {
+    let session = [1, 3, 1, 0, 0, 0, 0];
+    assert_eq!(scan_input(&session), Ok(Done((1, 3, 4), 7)));
+    assert_eq!(scan_input(&session[..2]), Ok(Done((1, 3, 0), 2)));
+    assert_eq!(scan_input(&session[..3]), Err(Stop::RefusedAt(7, 3)));
+    assert_eq!(scan_input(&session[..1]), Err(Stop::RefusedAt(7, 1)));
+    assert_eq!(scan_input(&[]), Err(Stop::RefusedAt(7, 0)));
+    assert_eq!(scan_input(&[16, 3]), Err(Stop::Refused(1)));
+    assert_eq!(scan_input(&[1, 3, 0, 3]), Err(Stop::RefusedAt(9, 3)));
 }

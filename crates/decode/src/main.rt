@@ -3,9 +3,9 @@
 use libc::STDERR_FILENO;
 use libc::STDOUT_FILENO;
 use number::Wrote;
+use record::HeaderRead;
 use refusal::Refusal;
 use session::Ending;
-use stream::HeaderRead;
 use window::Window;
 
 fn say_refused(f: Refusal) {
@@ -41,14 +41,12 @@ fn write_front(out: &[u8], end: usize) -> bool {
     io::write_all(STDOUT_FILENO, &out[..end])
 }
 
-// The rounds from an offset on, behind what stands in the buffer: it is written out whenever it is full. Each turn but the first decodes
-// a round, of a byte at least, so they are fewer than the loop allows.
+// The rounds from an offset on, behind what stands in the buffer: it is written out whenever it is full.
 fn decode_rounds(start: Window, src: &[u8], from: usize, out: &mut [u8], behind: usize) {
     let mut window = start;
     let mut at = from;
     let mut to = behind;
-    let mut turns: u32 = 0;
-    while turns < 131072 {
+    loop {
         let r = session::decode_rounds(window, src, at, out, to);
         let ending = r.ending;
         window = r.window;
@@ -62,14 +60,13 @@ fn decode_rounds(start: Window, src: &[u8], from: usize, out: &mut [u8], behind:
             return;
         }
         to = 0;
-        turns += 1;
     }
 }
 
 fn decode(src: &[u8], out: &mut [u8]) {
-    match stream::read_header(src, 0) {
+    match record::read_header(src, 0) {
         HeaderRead::Refused(f) => say_refused(f),
-        HeaderRead::Shape(shape, next) => match stream::write_header(shape, out, 0) {
+        HeaderRead::Shape(shape, next) => match record::write_header(shape, out, 0) {
             Wrote::Not(f) => say_refused(f),
             Wrote::To(to) => {
                 let fresh = calls::fresh(shape.height as u32, shape.distance as u32);

@@ -3,15 +3,15 @@ use Prim.Native.Nat.{ℕ}
 use mathlib.Core.Path.{_≡_, refl, sym, _∙_, ap}
 use mathlib.Core.List.{[], _∷_}
 use lib.Dec.{leb}
-use Rattle.refusal.specs.Answer.{Answer, done, ended, Code, codeOf, byCode, turned, status, valueOr}
-use Rattle.refusal.specs.Laws.{each, turned-not, value-not}
+use Rattle.refusal.specs.Answer.{Answer, done, ended, Code, codeOf, byCode, turned, status, nextOr, valueOr}
+use Rattle.refusal.specs.Laws.{each, turned-not, turned-next, value-not}
 use Rattle.refusal.specs.Tests.{Turned, tests-turned, tests-done, turned-first}
 use Rattle.refusal.specs.declared.Refusal.{Refusal}
 use Rattle.shape.specs.Sizes.{shapeTests, shapeOf, told}
 use Rattle.shape.specs.declared.Shape.{Shape}
 use Rattle.shape.specs.declared.Shaped.{Shaped}
 use Rattle.shape.specs.declared.Shaped.the-variants as shaped
-use Rattle.stream.specs.Calls.{placeTests}
+use Rattle.record.specs.Calls.{placeTests}
 use Rattle.session.specs.Decoding.{turnedBack}
 use Rattle.exports.specs.Seen.{seen, shown, shapeBy, codeNumber, lineStatus}
 
@@ -36,6 +36,10 @@ module _ {A : Type 0} (a : Answer A) (of : A → ℕ) (other : ℕ) where
 
   pub value-turned : (f : Refusal) → a ≡ turned f → other ≡ valueOr a of other
   value-turned f e = sym (ap (λ (x : Answer A). valueOr x of other) e ∙ value-not (turned f) of other (turned-not A f))
+
+-- a refusal moves nothing
+pub next-turned : {A : Type 0} (a : Answer A) (other : ℕ) (f : Refusal) → a ≡ turned f → other ≡ nextOr a other
+next-turned {A} a other f e = sym (ap (λ (x : Answer A). nextOr x other) e ∙ turned-next A f other)
 
 module _ (h d : ℕ) (r : Shaped) (e : told r ≡ shapeOf h d) where
   pub shape-turned : (f : Refusal) → r ≡ shaped.Refused f → (len at : ℕ) → Turned (placeTests (shapeBy h d) len at) f

@@ -4,6 +4,7 @@ use Rattle.refusal.specs.Answer.{Answer, Code, plain, placed, status, placeOr}
 use Rattle.session.specs.Decoding.{Line, finished, turnedBack, spent}
 use Rattle.shape.specs.Sizes.{nodesOf, detectorsOf, layerEdgesOf}
 use Rattle.shape.specs.declared.Shape.{Shape}
+use Rattle.stream.specs.Scanned.{Scanned}
 
 -- the status, and the place that the caller lent
 pub record Seen : Type 0 where
@@ -26,6 +27,16 @@ heightOf sh = sh .height
 
 abbrev pub distanceOf : Shape → ℕ
 distanceOf sh = sh .distance
+
+-- the shape of a whole stream, and its rounds
+abbrev pub heightIn : Scanned → ℕ
+heightIn t = t .shape .height
+
+abbrev pub distanceIn : Scanned → ℕ
+distanceIn t = t .shape .distance
+
+abbrev pub roundsIn : Scanned → ℕ
+roundsIn t = t .rounds
 
 -- the sizes of a shape
 abbrev pub nodesBy : Shape → ℕ

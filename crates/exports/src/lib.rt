@@ -1,24 +1,27 @@
 // Streams and decoding for programs in C: numbers, byte slices and lent numbers only. Each call answers 0 where it is done, 255 where no bytes
 // are left, and else the refusal's number; what that leaves alone stays as it was.
 ghost use mathlib.Core.Path.{_≡_};
-ghost use Rattle.refusal.specs.Answer.{turned, valueOr, itself};
+ghost use Rattle.refusal.specs.Answer.{turned, nextOr, valueOr, itself};
 ghost use Rattle.number.specs.Number.{numberAt, toldTo, writeNumber};
 ghost use Rattle.list.specs.Sheet.{readList, writeList};
 ghost use Rattle.shape.specs.Sizes.{shapeOf};
-ghost use Rattle.stream.specs.Records.{headerAt};
-ghost use Rattle.stream.specs.Calls.{writeHeader, readRound, writeRound, readResult, writeResult, asResult};
+ghost use Rattle.record.specs.Records.{headerAt};
+ghost use Rattle.stream.specs.Streams.{inputOf};
+ghost use Rattle.stream.specs.Scanned.{scanned};
+ghost use Rattle.record.specs.Calls.{writeHeader, readRound, writeRound, readResult, writeResult, asResult};
 ghost use Rattle.shape.specs.Steps.{base};
 ghost use Rattle.session.specs.Answers.{toldLine, decodeLeaves};
-ghost use Rattle.exports.specs.Seen.{seen, shown, shapeBy, heightOf, distanceOf, nodesBy, detectorsBy, edgesBy, lineStatus};
+ghost use Rattle.exports.specs.Seen.{seen, shown, shapeBy, heightOf, distanceOf, heightIn, distanceIn, roundsIn, nodesBy, detectorsBy, edgesBy, lineStatus};
 use list::Listed;
 use number::Read;
 use number::Wrote;
+use record::HeaderRead;
+use record::ResultRead;
+use record::RoundRead;
 use refusal::Refusal;
 use session::Ending;
 use shape::Shaped;
-use stream::HeaderRead;
-use stream::ResultRead;
-use stream::RoundRead;
+use stream::InputRead;
 
 // A refusal's number; the place takes its offset, where it carries one.
 fn refuse(f: Refusal, place: &mut usize) -> u8
@@ -109,6 +112,31 @@ pub extern "C" fn baizeridge_write_list(
     wrote(w, place)
 }
 
+// A reader `take_` moves the lent offset behind the record, and leaves it where none was read; `read_` is the same with an offset by value.
+#[no_mangle]
+pub extern "C" fn baizeridge_take_header(
+    src: &[u8],
+    at: &mut usize,
+    height: &mut u32,
+    distance: &mut u32,
+    place: &mut usize,
+) -> u8
+    ensures { λ r. ⌜ seen r (now (place .exit)) ≡ shown (headerAt (now (src .entry)) (now (at .entry))) (now (place .entry)) ⌝ }
+    ensures { λ r. ⌜ now (height .exit) ≡ valueOr (headerAt (now (src .entry)) (now (at .entry))) heightOf (now (height .entry)) ⌝ }
+    ensures { λ r. ⌜ now (distance .exit) ≡ valueOr (headerAt (now (src .entry)) (now (at .entry))) distanceOf (now (distance .entry)) ⌝ }
+    ensures { λ r. ⌜ now (at .exit) ≡ nextOr (headerAt (now (src .entry)) (now (at .entry))) (now (at .entry)) ⌝ }
+{
+    match stream::take_header(src, at) {
+        HeaderRead::Shape(shape, next) => {
+            *height = shape.height as u32;
+            *distance = shape.distance as u32;
+            *place = next;
+            0
+        }
+        HeaderRead::Refused(f) => refuse(f, place),
+    }
+}
+
 #[no_mangle]
 pub extern "C" fn baizeridge_read_header(
     src: &[u8],
@@ -121,15 +149,8 @@ pub extern "C" fn baizeridge_read_header(
     ensures { λ r. ⌜ now (height .exit) ≡ valueOr (headerAt (now (src .entry)) at) heightOf (now (height .entry)) ⌝ }
     ensures { λ r. ⌜ now (distance .exit) ≡ valueOr (headerAt (now (src .entry)) at) distanceOf (now (distance .entry)) ⌝ }
 {
-    match stream::read_header(src, at) {
-        HeaderRead::Shape(shape, next) => {
-            *height = shape.height as u32;
-            *distance = shape.distance as u32;
-            *place = next;
-            0
-        }
-        HeaderRead::Refused(f) => refuse(f, place),
-    }
+    let mut from = at;
+    baizeridge_take_header(src, &mut from, height, distance, place)
 }
 
 #[no_mangle]
@@ -146,9 +167,35 @@ pub extern "C" fn baizeridge_write_header(
     match shape::shape_of(height, distance) {
         Shaped::Refused(f) => refuse(f, place),
         Shaped::Shape(shape) => {
-            let w = stream::write_header(shape, out, at);
+            let w = record::write_header(shape, out, at);
             wrote(w, place)
         }
+    }
+}
+
+#[no_mangle]
+pub extern "C" fn baizeridge_take_round(
+    height: u32,
+    distance: u32,
+    src: &[u8],
+    at: &mut usize,
+    defects: &mut [u8],
+    place: &mut usize,
+) -> u8
+    ensures { λ r. ⌜ seen r (now (place .exit)) ≡ shown (readRound (shapeBy height distance) (now (src .entry)) (now (at .entry)) (now (defects .entry)) .answer) (now (place .entry)) ⌝ }
+    ensures { λ r. ⌜ now (defects .exit) ≡ readRound (shapeBy height distance) (now (src .entry)) (now (at .entry)) (now (defects .entry)) .buffer ⌝ }
+    ensures { λ r. ⌜ now (at .exit) ≡ nextOr (readRound (shapeBy height distance) (now (src .entry)) (now (at .entry)) (now (defects .entry)) .answer) (now (at .entry)) ⌝ }
+{
+    match shape::shape_of(height, distance) {
+        Shaped::Refused(f) => refuse(f, place),
+        Shaped::Shape(shape) => match stream::take_round(shape, src, at, defects) {
+            RoundRead::To(next) => {
+                *place = next;
+                0
+            }
+            RoundRead::End => 255,
+            RoundRead::Refused(f) => refuse(f, place),
+        },
     }
 }
 
@@ -164,17 +211,8 @@ pub extern "C" fn baizeridge_read_round(
     ensures { λ r. ⌜ seen r (now (place .exit)) ≡ shown (readRound (shapeBy height distance) (now (src .entry)) at (now (defects .entry)) .answer) (now (place .entry)) ⌝ }
     ensures { λ r. ⌜ now (defects .exit) ≡ readRound (shapeBy height distance) (now (src .entry)) at (now (defects .entry)) .buffer ⌝ }
 {
-    match shape::shape_of(height, distance) {
-        Shaped::Refused(f) => refuse(f, place),
-        Shaped::Shape(shape) => match stream::read_round(shape, src, at, defects) {
-            RoundRead::To(next) => {
-                *place = next;
-                0
-            }
-            RoundRead::End => 255,
-            RoundRead::Refused(f) => refuse(f, place),
-        },
-    }
+    let mut from = at;
+    baizeridge_take_round(height, distance, src, &mut from, defects, place)
 }
 
 #[no_mangle]
@@ -192,9 +230,40 @@ pub extern "C" fn baizeridge_write_round(
     match shape::shape_of(height, distance) {
         Shaped::Refused(f) => refuse(f, place),
         Shaped::Shape(shape) => {
-            let w = stream::write_round(shape, defects, out, at);
+            let w = record::write_round(shape, defects, out, at);
             wrote(w, place)
         }
+    }
+}
+
+#[no_mangle]
+pub extern "C" fn baizeridge_take_result(
+    height: u32,
+    distance: u32,
+    src: &[u8],
+    at: &mut usize,
+    edges: &mut [u8],
+    escapes: &mut [u8],
+    steps: &mut u32,
+    place: &mut usize,
+) -> u8
+    ensures { λ r. ⌜ seen r (now (place .exit)) ≡ shown (readResult (shapeBy height distance) (now (src .entry)) (now (at .entry)) (now (edges .entry)) (now (escapes .entry)) .answer) (now (place .entry)) ⌝ }
+    ensures { λ r. ⌜ now (edges .exit) ≡ readResult (shapeBy height distance) (now (src .entry)) (now (at .entry)) (now (edges .entry)) (now (escapes .entry)) .edges ⌝ }
+    ensures { λ r. ⌜ now (escapes .exit) ≡ readResult (shapeBy height distance) (now (src .entry)) (now (at .entry)) (now (edges .entry)) (now (escapes .entry)) .escapes ⌝ }
+    ensures { λ r. ⌜ now (steps .exit) ≡ valueOr (readResult (shapeBy height distance) (now (src .entry)) (now (at .entry)) (now (edges .entry)) (now (escapes .entry)) .answer) itself (now (steps .entry)) ⌝ }
+    ensures { λ r. ⌜ now (at .exit) ≡ nextOr (readResult (shapeBy height distance) (now (src .entry)) (now (at .entry)) (now (edges .entry)) (now (escapes .entry)) .answer) (now (at .entry)) ⌝ }
+{
+    match shape::shape_of(height, distance) {
+        Shaped::Refused(f) => refuse(f, place),
+        Shaped::Shape(shape) => match stream::take_result(shape, src, at, edges, escapes) {
+            ResultRead::Steps(n, next) => {
+                *steps = n;
+                *place = next;
+                0
+            }
+            ResultRead::End => 255,
+            ResultRead::Refused(f) => refuse(f, place),
+        },
     }
 }
 
@@ -214,18 +283,17 @@ pub extern "C" fn baizeridge_read_result(
     ensures { λ r. ⌜ now (escapes .exit) ≡ readResult (shapeBy height distance) (now (src .entry)) at (now (edges .entry)) (now (escapes .entry)) .escapes ⌝ }
     ensures { λ r. ⌜ now (steps .exit) ≡ valueOr (readResult (shapeBy height distance) (now (src .entry)) at (now (edges .entry)) (now (escapes .entry)) .answer) itself (now (steps .entry)) ⌝ }
 {
-    match shape::shape_of(height, distance) {
-        Shaped::Refused(f) => refuse(f, place),
-        Shaped::Shape(shape) => match stream::read_result(shape, src, at, edges, escapes) {
-            ResultRead::Steps(n, next) => {
-                *steps = n;
-                *place = next;
-                0
-            }
-            ResultRead::End => 255,
-            ResultRead::Refused(f) => refuse(f, place),
-        },
-    }
+    let mut from = at;
+    baizeridge_take_result(
+        height,
+        distance,
+        src,
+        &mut from,
+        edges,
+        escapes,
+        steps,
+        place,
+    )
 }
 
 #[no_mangle]
@@ -245,9 +313,35 @@ pub extern "C" fn baizeridge_write_result(
     match shape::shape_of(height, distance) {
         Shaped::Refused(f) => refuse(f, place),
         Shaped::Shape(shape) => {
-            let w = stream::write_result(shape, edges, escapes, steps, out, at);
+            let w = record::write_result(shape, edges, escapes, steps, out, at);
             wrote(w, place)
         }
+    }
+}
+
+// Reads a whole input stream, and stores nothing. The place takes its length.
+#[no_mangle]
+pub extern "C" fn baizeridge_scan_input(
+    src: &[u8],
+    height: &mut u32,
+    distance: &mut u32,
+    rounds: &mut usize,
+    place: &mut usize,
+) -> u8
+    ensures { λ r. ⌜ seen r (now (place .exit)) ≡ shown (scanned (inputOf (now (src .entry)))) (now (place .entry)) ⌝ }
+    ensures { λ r. ⌜ now (height .exit) ≡ valueOr (scanned (inputOf (now (src .entry)))) heightIn (now (height .entry)) ⌝ }
+    ensures { λ r. ⌜ now (distance .exit) ≡ valueOr (scanned (inputOf (now (src .entry)))) distanceIn (now (distance .entry)) ⌝ }
+    ensures { λ r. ⌜ now (rounds .exit) ≡ valueOr (scanned (inputOf (now (src .entry)))) roundsIn (now (rounds .entry)) ⌝ }
+{
+    match stream::scan_input(src) {
+        InputRead::Rounds(shape, n) => {
+            *height = shape.height as u32;
+            *distance = shape.distance as u32;
+            *rounds = n;
+            *place = src.len();
+            0
+        }
+        InputRead::Refused(f) => refuse(f, place),
     }
 }
 

@@ -31,9 +31,9 @@ use Rattle.window.specs.declared.Window.{Window}
 use Rattle.walk.specs.Walk.{Stands}
 use Rattle.walk.specs.LawsWalk.{peopled, nodes-max, stands, slot-at, none-there, way-there, named-east, named-south, named-up}
 use Rattle.walk.specs.Ways.{pos, less, north-none, north-index, north-way, west-none, west-index, west-way, east-none, east-way, south-none, south-way, down-none, down-way, up-none, up-index, up-way}
-use Rattle.merge.specs.Stirred.{differ, loud, uneven, within, stirred}
+use Rattle.stir.specs.Stirred.{differ, loud, uneven, within, stirred}
 use Rattle.merge.proofs.Turn.{six-steps}
-use Rattle.merge.proofs.Marks.{room, within-is, quiet, bitOf, spotOf, bit, spot, eastOf, southOf, upOf, unmarked, is-settled, no-east, no-south, no-up}
+use Rattle.stir.specs.Marks.{room, within-is, quiet, bitOf, spotOf, bit, spot, eastOf, southOf, upOf, unmarked, is-settled, no-east, no-south, no-up}
 use Rattle.merge.proofs.Peace.{Still, Rests, rests, neither, sees-still, sees-none, kept, bit-kept, over-kept}
 
 -- a way that is there leads to a node of the window

@@ -1,5 +1,3 @@
-pub mod Directions
 pub mod Turn
-pub mod Marks
 pub mod Peace
 pub mod Calm

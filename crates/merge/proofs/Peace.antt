@@ -21,7 +21,7 @@ use Rattle.window.specs.declared.Mark.the-variants.{Reset, Root}
 use Rattle.window.specs.declared.Node.{Node}
 use Rattle.window.specs.declared.Seen.{Seen}
 use Rattle.window.specs.declared.Way.{Way}
-use Rattle.merge.specs.Stirred.{settled, loud, numbered}
+use Rattle.stir.specs.Stirred.{settled, loud, numbered}
 
 -- WHAT IS SEEN
 

@@ -55,6 +55,13 @@ placeOr ended other = other
 placeOr (refused n) other = other
 placeOr (refusedAt n at) other = at
 
+-- the offset behind what is done, or the other one where nothing is
+abbrev pub nextOr : {A : Type 0} → Answer A → ℕ → ℕ
+nextOr (done a next) other = next
+nextOr ended other = other
+nextOr (refused n) other = other
+nextOr (refusedAt n at) other = other
+
 -- go on with a value, from the offset behind it; an end or a refusal stays
 abbrev pub andThen : {A B : Type 0} → Answer A → (A → ℕ → Answer B) → Answer B
 andThen (done a next) f = f a next

@@ -3,7 +3,7 @@ use Prim.Native.Nat.{ℕ}
 use mathlib.Core.Path.{_≡_, refl, sym, _∙_, ap}
 use mathlib.Core.Bool.{true, false}
 use native.Mathlib.Omega.{arith}
-use Rattle.refusal.specs.Answer.{Answer, done, ended, refused, refusedAt, Code, plain, placed, codeOf, byCode, turned, andThen, isDone, passed, valueOr}
+use Rattle.refusal.specs.Answer.{Answer, done, ended, refused, refusedAt, Code, plain, placed, codeOf, byCode, turned, andThen, isDone, passed, nextOr, valueOr}
 use Rattle.refusal.specs.declared.Refusal.{Refusal}
 
 -- what holds of both kinds of number holds of every refusal
@@ -23,6 +23,9 @@ turned-passed A f = each (λ (k : Code). passed (byCode {A = A} k) ≡ byCode k)
 
 pub turned-not : (A : Type 0) (f : Refusal) → isDone (turned {A = A} f) ≡ false
 turned-not A f = each (λ (k : Code). isDone (byCode {A = A} k) ≡ false) (λ n. refl) (λ n at. refl) f
+
+pub turned-next : (A : Type 0) (f : Refusal) (other : ℕ) → nextOr (turned {A = A} f) other ≡ other
+turned-next A f other = each (λ (k : Code). nextOr (byCode {A = A} k) other ≡ other) (λ n. refl) (λ n at. refl) f
 
 pub undone : true ≡ false → ⊥
 undone e = let z : _≡_ {A = ℕ} 0 1 = cc in omega arith
@@ -55,6 +58,26 @@ turned-on (done v next) f g e = absurd (undone (ap (λ (x : Answer (Unit {0})). 
 turned-on ended f g e = ap (λ (x : Answer (Unit {0})). andThen x (λ u n. ended)) e ∙ turned-as f (λ u n. ended)
 turned-on (refused n) f g e = ap (λ (x : Answer (Unit {0})). andThen x (λ u n. ended)) e ∙ turned-as f (λ u n. ended)
 turned-on (refusedAt n at) f g e = ap (λ (x : Answer (Unit {0})). andThen x (λ u n. ended)) e ∙ turned-as f (λ u n. ended)
+
+-- and so is an end
+pub ended-on : {A B : Type 0} (a : Answer A) (g : A → ℕ → Answer B) → passed a ≡ ended → andThen a g ≡ ended
+ended-on (done v next) g e = absurd (undone (ap (λ (x : Answer (Unit {0})). isDone x) e))
+ended-on ended g e = refl
+ended-on (refused n) g e = let z : _≡_ {A = ℕ} 0 1 = cc in absurd (omega arith)
+ended-on (refusedAt n at) g e = let z : _≡_ {A = ℕ} 0 1 = cc in absurd (omega arith)
+
+-- so both are known without the value
+itself-on : {A : Type 0} (a : Answer A) → andThen a (λ v next. done v next) ≡ a
+itself-on (done v next) = refl
+itself-on ended = refl
+itself-on (refused n) = refl
+itself-on (refusedAt n at) = refl
+
+pub turned-back : {A : Type 0} (a : Answer A) (f : Refusal) → passed a ≡ turned f → a ≡ turned f
+turned-back a f e = sym (itself-on a) ∙ turned-on a f (λ v next. done v next) e
+
+pub ended-back : {A : Type 0} (a : Answer A) → passed a ≡ ended → a ≡ ended
+ended-back a e = sym (itself-on a) ∙ ended-on a (λ v next. done v next) e
 
 pub done-on : {A : Type 0} (a : Answer A) (next : ℕ) → passed a ≡ done tt next → (v : A) × (a ≡ done v next)
 done-on (done v n) next e = let k : n ≡ next = cc in (v, ap (λ (m : ℕ). done v m) k)

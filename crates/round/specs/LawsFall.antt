@@ -14,6 +14,7 @@ use Rattle.shape.specs.Sizes.{inRange, nodesOf, sheetsOf, boundary, detectorsOf
 use Rattle.shape.specs.Ranges.{Ranged, ranged, in-range, nodes-of, sheets-le}
 use Rattle.shape.specs.Boundaries.{between}
 use Rattle.shape.specs.Counting.{Inside, within-place, before}
+use Rattle.shape.specs.LawsLayer.{detectors-le}
 use Rattle.shape.specs.Nodes.{placeAt, numberOf}
 use Rattle.shape.specs.Steps.{base, across}
 use Rattle.shape.specs.declared.Place.{Place}
@@ -41,11 +42,8 @@ module _ (h d s : ℕ) (r : Ranged h d) (e : s ≡ sheetsOf d) where
       let b : s + 1 ≤ 16 = omega (arith, few) in
       mul-le-mul {n₂ = 30} {m₂ = 16} a b
 
-  pub sheet-le : h * (d - 1) ≤ 210
-  sheet-le = let a : d - 1 ≤ 14 = omega (arith, r .d15) in mul-le-mul {n₂ = 15} {m₂ = 14} (r .h15) a
-
   pub inner-le : h * (d - 1) * s ≤ 3150
-  inner-le = mul-le-mul {n₂ = 210} {m₂ = 15} sheet-le few
+  inner-le = mul-le-mul {n₂ = 210} {m₂ = 15} (detectors-le h d r) few
 
   module _ (m : ℕ) where
     lowers : if (ltb m (2 * h * s)) (m + 2 * h) (if (ltb m (2 * h * (s + 1))) m (if (ltb m (2 * h * (s + 1) + h * (d - 1) * s)) (m + h * (d - 1)) m)) ≡ loweredNumber h d m

@@ -7,10 +7,10 @@ use mathlib.Core.List.{List, [], _∷_, _++_}
 use borrow.Author.Tests.{le-leb, eq-eqb}
 use lib.ListN.{length}
 use lib.Dec.{ltb}
-use Rattle.refusal.specs.Answer.{Answer, done, ended, refused, refusedAt, plain, codeOf, turned, unless, andThen, passed, valueOr, itself}
+use Rattle.refusal.specs.Answer.{Answer, done, ended, plain, codeOf, turned, unless, passed, valueOr, itself}
 use Rattle.refusal.specs.Bytes.{Bytes}
-use Rattle.refusal.specs.Done.{never, took}
-use Rattle.refusal.specs.Laws.{turned-on, done-on}
+use Rattle.refusal.specs.Done.{took}
+use Rattle.refusal.specs.Laws.{turned-on, ended-on, done-on}
 use Rattle.refusal.specs.Writing.{Left}
 use Rattle.refusal.specs.Writing as writing
 use Rattle.refusal.specs.declared.Refusal.{Refusal}
@@ -19,10 +19,10 @@ use Rattle.list.specs.Trip.{ListWrites, list-writes}
 use Rattle.shape.specs.Ranges.{halves}
 use Rattle.shape.specs.Sizes.{heightOk, distanceOk}
 use Rattle.shape.specs.Steps.{base}
-use Rattle.stream.specs.Calls.{placeTests, defectsTest, readRound, toldRound}
-use Rattle.stream.specs.Records.{roundAt}
-use Rattle.stream.specs.declared.RoundRead.{RoundRead}
-use Rattle.stream.specs.declared.RoundRead.the-variants as roundRead
+use Rattle.record.specs.Calls.{placeTests, defectsTest, readRound, toldRound}
+use Rattle.record.specs.Records.{roundAt}
+use Rattle.record.specs.declared.RoundRead.{RoundRead}
+use Rattle.record.specs.declared.RoundRead.the-variants as roundRead
 use Rattle.window.specs.Calls.{told}
 use Rattle.window.specs.Formed.{wellFormed}
 use Rattle.window.specs.declared.Called.{Called}
@@ -36,13 +36,6 @@ use Rattle.session.specs.LawsTests.{hold-pass}
 use Rattle.session.specs.LawsTurn.{detectors, onBytes, turn-steps, turn-done}
 use Rattle.session.specs.LawsDecoding.{recorded-turned, record-ends, record-tested, record-unformed}
 use Rattle.session.proofs.Tested.{Fine, fine-pass, tests-told}
-
--- an end stays an end, whatever was to come
-ended-on : {A B : Type 0} (a : Answer A) (g : A → ℕ → Answer B) → passed a ≡ ended → andThen a g ≡ ended
-ended-on (done v next) g e = absurd (never (sym e) refl)
-ended-on ended g e = refl
-ended-on (refused n) g e = let z : _≡_ {A = ℕ} 0 1 = cc in absurd (omega arith)
-ended-on (refusedAt n at) g e = let z : _≡_ {A = ℕ} 0 1 = cc in absurd (omega arith)
 
 -- a round that was read where the tests passed, into a part of so many bytes
 pub record Read (s : List ℕ) (w : Window) (at : ℕ) (old : List ℕ) (to : ℕ) (q : RoundRead) (new : List ℕ) : Type 0 where

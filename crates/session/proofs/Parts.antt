@@ -1,15 +1,14 @@
 -- The front part of a local array, lent and back in its place. Assumes nothing.
 use Prim.Native.Nat.{ℕ, _≤_}
 use native.Mathlib.Omega.{arith}
-use mathlib.Core.Path.{_≡_, refl, sym, _∙_, ap}
+use mathlib.Core.Path.{_≡_, sym, _∙_, ap}
 use mathlib.Core.Bool.{true}
 use mathlib.Core.List.{List, _++_}
 use lib.ListN.{length, take, drop, length-append}
 use lib.Seq.{take-at}
-use Rattle.round.specs.LawsFall.{sheet-le}
-use Rattle.shape.specs.LawsLayer.{layer-le}
+use Rattle.shape.specs.LawsLayer.{detectors-le as detectors-most, layer-le}
 use Rattle.shape.specs.Ranges.{ranged}
-use Rattle.shape.specs.Sizes.{inRange, sheetsOf, detectorsOf, layerEdgesOf}
+use Rattle.shape.specs.Sizes.{inRange, detectorsOf, layerEdgesOf}
 use Rattle.shape.specs.Steps.{base}
 use Rattle.window.specs.Round.{committed, escaped}
 use Rattle.window.specs.declared.Window.{Window}
@@ -18,7 +17,7 @@ use Rattle.session.specs.LawsTurn.{detectors, edges, committed-long, esc
 -- the largest shape's detectors and edges, for which the arrays have room
 module _ (h d : ℕ) (range : inRange h d ≡ true) where
   pub detectors-le : detectorsOf h d ≤ 210
-  detectors-le = sheet-le h d (sheetsOf d) (ranged h d range) refl
+  detectors-le = detectors-most h d (ranged h d range)
 
   pub edges-le : layerEdgesOf h d ≤ 631
   edges-le = layer-le h d (ranged h d range)

@@ -20,12 +20,12 @@ use Rattle.shape.specs.Ranges.{halves}
 use Rattle.shape.specs.Sizes.{heightOk, distanceOk, shapeTests, shapeOf}
 use Rattle.shape.specs.Steps.{base}
 use Rattle.shape.specs.declared.Shape.{Shape}
-use Rattle.stream.specs.Calls.{toldHeader, placeTests, writeHeader}
+use Rattle.record.specs.Calls.{toldHeader, placeTests, writeHeader}
 use Rattle.stream.specs.Fits.{InRange}
 use Rattle.stream.specs.Header.{header-writes}
-use Rattle.stream.specs.Records.{header, headerAt}
-use Rattle.stream.specs.declared.HeaderRead.{HeaderRead}
-use Rattle.stream.specs.declared.HeaderRead.the-variants as headerRead
+use Rattle.record.specs.Records.{header, headerAt}
+use Rattle.record.specs.declared.HeaderRead.{HeaderRead}
+use Rattle.record.specs.declared.HeaderRead.the-variants as headerRead
 use Rattle.window.specs.Fresh.{freshWindow, noWindow}
 use Rattle.window.specs.Calls.{Answered, given, leaves, freshCall}
 use Rattle.window.specs.declared.Window.{Window}

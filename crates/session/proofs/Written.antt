@@ -17,8 +17,8 @@ use Rattle.shape.specs.Choice.{if, if-true, if-false}
 use Rattle.shape.specs.Ranges.{halves}
 use Rattle.shape.specs.Sizes.{heightOk, distanceOk, inRange}
 use Rattle.shape.specs.Steps.{base}
-use Rattle.stream.specs.Calls.{writeResult, asResult, placeTests, edgesTest, escapesTest}
-use Rattle.stream.specs.Records.{Result, result}
+use Rattle.record.specs.Calls.{writeResult, asResult, placeTests, edgesTest, escapesTest}
+use Rattle.record.specs.Records.{Result, result}
 use Rattle.window.specs.Round.{rounded, committed, escaped}
 use Rattle.window.specs.Run.{ran}
 use Rattle.window.specs.declared.Ran.{Ran}

@@ -8,7 +8,7 @@ use Rattle.refusal.specs.Answer.{Answer, done, ended, refused, refusedAt, unles
 use Rattle.shape.specs.Choice.{if}
 use Rattle.shape.specs.Sizes.{detectorsOf, layerEdgesOf}
 use Rattle.shape.specs.Steps.{Table}
-use Rattle.stream.specs.Records.{header, headerAt, roundAt, Result, result}
+use Rattle.record.specs.Records.{header, headerAt, roundAt, Result, result}
 use Rattle.window.specs.Window.{isRest}
 use Rattle.window.specs.Fresh.{freshWindow}
 use Rattle.window.specs.Formed.{wellFormed}

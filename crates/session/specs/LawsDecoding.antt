@@ -18,7 +18,7 @@ use Rattle.list.specs.Trip.{ListWrites, list-writes}
 use Rattle.shape.specs.Choice.{if, if-true, if-false}
 use Rattle.shape.specs.Steps.{Table}
 use Rattle.shape.specs.declared.Shape.{Shape}
-use Rattle.stream.specs.Records.{header, headerAt, roundAt, result}
+use Rattle.record.specs.Records.{header, headerAt, roundAt, result}
 use Rattle.window.specs.Fresh.{freshWindow}
 use Rattle.window.specs.Calls.{roundCall, runCall}
 use Rattle.window.specs.Formed.{wellFormed}

@@ -14,7 +14,7 @@ use Rattle.shape.specs.Layer.{edgeOf}
 use Rattle.shape.specs.Nodes.{indexOf}
 use Rattle.shape.specs.Sizes.{sheetsOf, detectorsOf, layerEdgesOf}
 use Rattle.shape.specs.Steps.{Table}
-use Rattle.stream.specs.Records.{roundAt}
+use Rattle.record.specs.Records.{roundAt}
 use Rattle.window.specs.Lists.{from, byPlace, bit}
 use Rattle.window.specs.LawsLists.{length-by}
 use Rattle.window.specs.Window.{isRest, at}

@@ -12,13 +12,12 @@ use Rattle.number.specs.Number.{written}
 use Rattle.number.specs.Laws.{written-one, written-more, length-written}
 use Rattle.list.specs.Sheet.{ones, skips, listed}
 use Rattle.list.specs.Laws.{listed-is, length-skips, ones-nil, ones-set, ones-unset}
-use Rattle.round.specs.LawsFall.{sheet-le}
 use Rattle.shape.specs.Choice.{if, order}
-use Rattle.shape.specs.LawsLayer.{layer-le}
+use Rattle.shape.specs.LawsLayer.{detectors-le, layer-le}
 use Rattle.shape.specs.Ranges.{ranged}
-use Rattle.shape.specs.Sizes.{inRange, sheetsOf}
+use Rattle.shape.specs.Sizes.{inRange}
 use Rattle.shape.specs.Steps.{Table}
-use Rattle.stream.specs.Records.{result}
+use Rattle.record.specs.Records.{result}
 use Rattle.window.specs.Window.{isRest, isToGrow}
 use Rattle.window.specs.Round.{rounded}
 use Rattle.window.specs.Grow.{grown}
@@ -78,7 +77,7 @@ turn-most T w bytes e =
     let b = listed-most (r .escapes) in
     let c = count-written (r .steps) (count-most T budget 0 (if (isToGrow (rounded T w bytes .stage)) (grown T (rounded T w bytes)) (rounded T w bytes))) in
     let i = layer-le h d (ranged h d e) in
-    let j = sheet-le h d (sheetsOf d) (ranged h d e) refl in
+    let j = detectors-le h d (ranged h d e) in
     let m = committed-long T w in
     let n = escaped-long w in
     let k : length (result r) ≡ length (listed (r .edges)) + (length (listed (r .escapes)) + length (written (r .steps))) = simp length-append refl in

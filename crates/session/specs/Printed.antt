@@ -9,7 +9,7 @@ use Rattle.shape.specs.Nodes as nodes
 use Rattle.shape.specs.Steps as steps
 use Rattle.shape.specs.Steps.{base}
 use Rattle.shape.specs.Layer as layer
-use Rattle.stream.specs.Records as records
+use Rattle.record.specs.Records as records
 use Rattle.stream.specs.Printed as stream
 use Rattle.window.specs.Lists as lists
 use Rattle.window.specs.Window as window

@@ -1,6 +1,6 @@
 -- A decoding that stopped can be resumed, with room as it was or more: so a stream decoded piece by piece, as the program does it, is decoded
 -- as in one piece. Assumes nothing.
-use Prim.Native.Nat.{ℕ, zero, suc, _+_, _-_, _≤_}
+use Prim.Native.Nat.{ℕ, zero, suc, _+_, _-_, _≤_, _<_}
 use native.Mathlib.Nat.{add-zero}
 use native.Mathlib.Omega.{arith}
 use mathlib.Core.Path.{_≡_, refl, sym, _∙_, ap}
@@ -43,3 +43,34 @@ module _ (T : Table) (s : List ℕ) (b : Bytes s) (size size′ : ℕ) where
 
   pub resumed : (w : Window) (at to to′ : ℕ) → size - to ≤ size′ - to′ → to′ ≤ size′ → Resumed (rounds T s size w at to) w at to′
   resumed w at to to′ l m = from (length s + 1) w at to to′ l m
+
+-- what is decoded was read: the offset never goes back, and goes forward with the first record
+module _ (T : Table) (s : List ℕ) (b : Bytes s) (size : ℕ) where
+  pub record Onward (at : ℕ) (r : Rounds) : Type 0 where
+    pub still : at ≤ r .next
+    pub inside : at ≤ length s → r .next ≤ length s
+    pub forward : 0 < length (r .output) → (at < r .next) × (r .next ≤ length s)
+
+  onward-stop : (l : Line) (w : Window) (at : ℕ) → Onward at (stop l w at)
+  onward-stop l w at = record { still = omega arith; inside = λ i. i; forward = λ o. absurd (omega arith) }
+
+  onward-from : (n : ℕ) (w : Window) (at to : ℕ) → Onward at (roundsFrom T s size n w at to)
+  unfolding roundsFrom
+  onward-from zero w at to = onward-stop finished w at
+  onward-from (suc n) w at to = go (recordAt T s size w at to) refl (λ v next i. onward-from n v next i)
+    where
+      go : (r : Recorded) → recordAt T s size w at to ≡ r
+          → ((v : Window) (next i : ℕ) → Onward next (roundsFrom T s size n v next i))
+          → Onward at (elim r [ wrote bytes v next ↦ after bytes (roundsFrom T s size n v next (to + length bytes)) | stopped o ↦ stop o w at ])
+      go (stopped o) e on = onward-stop o w at
+      go (wrote bytes v next) e on =
+          let f = record-forward T s b size w at to bytes v next e in
+          let o = on v next (to + length bytes) in
+          record {
+            still = omega (arith, f .forward, o .still);
+            inside = λ i. o .inside (f .inside);
+            forward = λ p. (omega (arith, f .forward, o .still), o .inside (f .inside));
+          }
+
+  pub onward : (w : Window) (at to : ℕ) → Onward at (rounds T s size w at to)
+  onward w at to = onward-from (length s + 1) w at to

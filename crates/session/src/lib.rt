@@ -1,8 +1,8 @@
 // Decoding an input stream into a result stream: one record, and the whole stream on slices.
 use number::Wrote;
+use record::HeaderRead;
+use record::RoundRead;
 use refusal::Refusal;
-use stream::HeaderRead;
-use stream::RoundRead;
 use window::Called;
 use window::Ran;
 use window::Window;
@@ -110,7 +110,7 @@ fn decode_round(w: Window, bytes: &[u8], next: usize, out: &mut [u8], to: usize)
             window: w,
         };
     }
-    match stream::write_result(shape, &edges[..m], &escapes[..n], ran.count, out, to) {
+    match record::write_result(shape, &edges[..m], &escapes[..n], ran.count, out, to) {
         Wrote::Not(f) => Recorded {
             answer: Record::Stopped(Ending::Refused(f)),
             window: w,
@@ -137,7 +137,7 @@ fn decode_read(w: Window, src: &[u8], at: usize, out: &mut [u8], to: usize) -> R
     let shape = w.shape;
     let n = shape::detectors(shape);
     let mut bytes = [0; 210];
-    match stream::read_round(shape, src, at, &mut bytes[..n]) {
+    match record::read_round(shape, src, at, &mut bytes[..n]) {
         RoundRead::Refused(f) => Recorded {
             answer: Record::Stopped(Ending::Refused(f)),
             window: w,
@@ -247,12 +247,12 @@ pub fn decode_rounds(w: Window, src: &[u8], at: usize, out: &mut [u8], to: usize
 pub fn decode(src: &[u8], out: &mut [u8]) -> Decoded
     ensures { λ r. ⌜ resulted (toldLine (r .ending)) (r .count) (now (out .exit)) ≡ decodeLeaves base (now (src .entry)) (now (out .entry)) ⌝ }
 {
-    match stream::read_header(src, 0) {
+    match record::read_header(src, 0) {
         HeaderRead::Refused(f) => Decoded {
             ending: Ending::Refused(f),
             count: 0,
         },
-        HeaderRead::Shape(shape, next) => match stream::write_header(shape, out, 0) {
+        HeaderRead::Shape(shape, next) => match record::write_header(shape, out, 0) {
             Wrote::Not(f) => Decoded {
                 ending: Ending::Refused(f),
                 count: 0,

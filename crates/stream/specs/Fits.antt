@@ -8,7 +8,7 @@ use Rattle.number.specs.Number.{largest}
 use Rattle.list.specs.Sheet.{areBits}
 use Rattle.shape.specs.Sizes.{inRange, detectorsOf, layerEdgesOf}
 use Rattle.shape.specs.declared.Shape.{Shape}
-use Rattle.stream.specs.Records.{Result}
+use Rattle.record.specs.Records.{Result}
 use Rattle.stream.specs.Streams.{Stream}
 
 abbrev pub InRange : Shape → Type 0

@@ -15,9 +15,9 @@ use Rattle.number.specs.Trip.{number-reads, NumberWrites, number-writes, number
 use Rattle.shape.specs.Sizes.{heightOk, distanceOk}
 use Rattle.shape.specs.Ranges.{halves, height-ok, distance-ok}
 use Rattle.shape.specs.declared.Shape.{Shape}
-use Rattle.stream.specs.Records.{header, headerAt}
+use Rattle.record.specs.Records.{header, headerAt}
 use Rattle.stream.specs.Fits.{InRange}
-use Rattle.stream.specs.Laws.{onDistance, onHeight, header-steps, header-next, header-done}
+use Rattle.record.specs.Laws.{onDistance, onHeight, header-steps, header-next, header-done}
 
 -- A SHAPE IN RANGE
 

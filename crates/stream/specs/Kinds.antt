@@ -19,11 +19,11 @@ use Rattle.list.specs.Sheet.{listed, listAt}
 use Rattle.list.specs.Trip.{list-reads, ListWrites, list-writes, list-no-end}
 use Rattle.list.specs.Laws.{length-listed}
 use Rattle.shape.specs.declared.Shape.{Shape}
-use Rattle.stream.specs.Records.{unlessEnded, Result, result, resultFrom}
+use Rattle.record.specs.Records.{unlessEnded, Result, result, resultFrom}
 use Rattle.stream.specs.Streams.{roundOf, resultOf}
 use Rattle.stream.specs.Fits.{edgesIn, detectorsIn, Entries, RoundFits, CommitFits, InRange}
 use Rattle.stream.specs.Header.{ranges}
-use Rattle.stream.specs.Laws.{at-end, before-end, onSteps, onEscapes, onEdges, result-steps, result-done, length-result}
+use Rattle.record.specs.Laws.{at-end, before-end, onSteps, onEscapes, onEdges, result-steps, result-done, length-result}
 use Rattle.stream.specs.Trip.{RecordWrites, Trips, Kind}
 
 -- AN END OR A RECORD

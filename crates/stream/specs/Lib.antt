@@ -1,10 +1,10 @@
-pub mod Records
 pub mod Streams
-pub mod Calls
-pub mod Laws
+pub mod Reader
 pub mod Fits
 pub mod Header
 pub mod Trip
 pub mod Kinds
 pub mod RoundTrips
 pub mod Printed
+pub mod Scanned
+pub mod LawsScanned

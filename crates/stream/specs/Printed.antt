@@ -4,7 +4,7 @@ use mathlib.Core.List.{[], _∷_}
 use Rattle.refusal.specs.Answer.{refused, refusedAt}
 use Rattle.number.specs.Number.{written, numberAt}
 use Rattle.shape.specs.Printed as shape
-use Rattle.stream.specs.Records.{headerAt}
+use Rattle.record.specs.Records.{headerAt}
 
 pub record Printed : Type 0 where
   -- N of 1 by 2, 3 by 3 and 15 by 15; the edges of a 3 by 3 layer; heights and distances out of range

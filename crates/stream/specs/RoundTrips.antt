@@ -7,7 +7,7 @@ use Rattle.refusal.specs.Answer.{done, ended}
 use Rattle.refusal.specs.Ends.{no-end}
 use Rattle.refusal.specs.Bytes.{Bytes}
 use Rattle.list.specs.Sheet.{listed}
-use Rattle.stream.specs.Records.{Result, result}
+use Rattle.record.specs.Records.{Result, result}
 use Rattle.stream.specs.Streams.{Stream, roundOf, resultOf, inputOf, inputBytes, resultsOf, resultBytes}
 use Rattle.stream.specs.Fits.{RoundFits, CommitFits, InputFits, ResultFits}
 use Rattle.stream.specs.Trip.{stream-reads, stream-writes, stream-no-end}

@@ -6,7 +6,7 @@ use Rattle.refusal.specs.Answer.{Answer, done, ended, refused, refusedAt, andTh
 use Rattle.list.specs.Sheet.{listed}
 use Rattle.shape.specs.Sizes.{detectorsOf, layerEdgesOf}
 use Rattle.shape.specs.declared.Shape.{Shape}
-use Rattle.stream.specs.Records.{header, headerAt, roundAt, Result, result, resultAt}
+use Rattle.record.specs.Records.{header, headerAt, roundAt, Result, result, resultAt}
 
 -- the records of a kind one after another
 unfoldable pub allBytes : {A : Type 0} → (A → List ℕ) → List A → List ℕ

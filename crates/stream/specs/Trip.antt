@@ -10,10 +10,10 @@ use Rattle.refusal.specs.Ends.{NoEnd, no-end, no-end-then}
 use Rattle.refusal.specs.Bytes.{Bytes, part-inside, at-end}
 use Rattle.refusal.specs.Filling.{drop-part}
 use Rattle.shape.specs.declared.Shape.{Shape}
-use Rattle.stream.specs.Records.{header, headerAt}
+use Rattle.record.specs.Records.{header, headerAt}
 use Rattle.stream.specs.Streams.{Stream, allBytes, recordsAt, streamOf, bytesOf}
 use Rattle.stream.specs.Fits.{Each, InRange, Fits}
-use Rattle.stream.specs.Laws.{length-header}
+use Rattle.record.specs.Laws.{length-header}
 use Rattle.stream.specs.Header.{header-reads, HeaderWrites, header-writes, header-no-end}
 
 -- what a record that is read tells of the bytes

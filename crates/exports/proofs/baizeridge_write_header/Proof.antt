@@ -4,8 +4,8 @@ use lib.ListN.{length}
 use Rattle.refusal.specs.Writing.{Left}
 use Rattle.refusal.specs.Filling.{writing-turned}
 use Rattle.shape.specs.declared.Shape.{Shape}
-use Rattle.stream.specs.Records.{header, result}
-use Rattle.stream.specs.Calls.{placeTests, writeHeader}
+use Rattle.record.specs.Records.{header, result}
+use Rattle.record.specs.Calls.{placeTests, writeHeader}
 use Rattle.exports.specs.Seen.{shown, shapeBy}
 use Rattle.exports.specs.Laws.{seen-turned, shape-turned, shape-named}
 use borrow.Author.Needs.{needs}

@@ -7,8 +7,8 @@ use Rattle.refusal.specs.Writing.{Left}
 use Rattle.refusal.specs.Filling.{writing-turned}
 use Rattle.list.specs.Sheet.{listed, areBits}
 use Rattle.shape.specs.declared.Shape.{Shape}
-use Rattle.stream.specs.Records.{result}
-use Rattle.stream.specs.Calls.{placeTests, defectsTest, writeRound}
+use Rattle.record.specs.Records.{result}
+use Rattle.record.specs.Calls.{placeTests, defectsTest, writeRound}
 use Rattle.exports.specs.Seen.{shown, shapeBy}
 use Rattle.exports.specs.Laws.{seen-turned, shape-turned, shape-named}
 use borrow.Author.Needs.{needs}

@@ -1,11 +1,12 @@
 -- `merge::merge` meets its contract. Assumes nothing.
 use mathlib.Core.Path.{_≡_, sym, _∙_, ap, subst}
-use mathlib.Core.Bool.{true, false, not}
+use mathlib.Core.Bool.{Bool, true, false, _||_, not}
 use Prim.Native.Nat.{ℕ, _≤_, _<_, _-_, _+_, _*_}
 use native.Mathlib.Omega.{arith}
 use borrow.Author.Needs.{needs}
 use borrow.Author.Tests.{not-true}
 use lib.ListN.{length, length-map, getD, replicate}
+use Rattle.shape.specs.Choice.{whether}
 use Rattle.shape.specs.Steps.{base}
 use Rattle.window.specs.Lists.{over, any}
 use Rattle.window.specs.LawsLists.{over-none, over-next, over-three, any-none, any-next}
@@ -15,7 +16,7 @@ use Rattle.window.specs.declared.Stepped.{Stepped}
 use Rattle.window.specs.Merging.{nothing, stepAt, flippedSlot, seen as seenFrom}
 use Rattle.walk.specs.Walk.{Stands}
 use Rattle.walk.specs.LawsWalk.{stands-at, ends-low, nodes-max, named-east, named-south, named-up}
-use Rattle.merge.specs.Stirred.{stirred as stirredBy}
+use Rattle.stir.specs.Stirred.{stirred as stirredBy}
 use Rattle.merge.proofs.Turn.{merged-by, seen-by, step-by, bit-by, seen-all}
 use Rattle.merge.proofs.Calm.{nodes-pass, busy-pass, slots-pass}
 use Rattle.merge.proofs.merge.Statement.{statement}
@@ -254,10 +255,13 @@ nodes-again-2 c =
     let h : g < length (w .nodes) = omega (arith, low i, nodes-length s) in
     let j : 3 * g + 2 < length (w .correction) = omega (arith, low i, correction-length s) in
     let e : 3 * g + 3 ≡ 3 * (g + 1) = omega arith in
+    let own : Bool = c .before .before .before .before .before .before .before .before .before .before .before .node-step .result .busy in
+    let u : (l .busy || own) ≡ any (g + 1) (λ n. stepAt base w n .busy) = any-next (λ n. stepAt base w n .busy) g _ _ (l .inv .2) (ap (λ (v : Stepped). v .busy) r) in
     let t = over-three (flippedSlot base w) (w .correction) (3 * g) _ _ _ _ j (l .inv .3) x y z in (
       omega (arith, i .nodes-test .taken),
       over-next (λ n. stepAt base w n .node) (w .nodes) g _ _ h (l .inv .1) (ap (λ (v : Stepped). v .node) r),
-      any-next (λ n. stepAt base w n .busy) g _ _ (l .inv .2) (ap (λ (v : Stepped). v .busy) r),
+      whether (l .busy) (λ q. whether own (λ o. simp (q, o) (simp (q, o) at u)) (λ o. simp (q, o) (simp (q, o) at u)))
+          (λ q. whether own (λ o. simp (q, o) (simp (q, o) at u)) (λ o. simp (q, o) (simp (q, o) at u))),
       t ∙ ap (λ (n : ℕ). over n (flippedSlot base w) (w .correction)) e,
     )
 

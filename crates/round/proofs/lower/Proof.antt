@@ -2,7 +2,8 @@
 use native.Mathlib.Omega.{arith}
 use borrow.Author.Needs.{needs}
 use Rattle.shape.specs.Ranges.{ranged}
-use Rattle.round.specs.LawsFall.{lower-side, lower-ghost, lower-inner, lower-past, sides-le, boundary-le, sheet-le, inner-le}
+use Rattle.shape.specs.LawsLayer.{detectors-le}
+use Rattle.round.specs.LawsFall.{lower-side, lower-ghost, lower-inner, lower-past, sides-le, boundary-le, inner-le}
 use Rattle.round.proofs.lower.Statement.{statement}
 use Rattle.round.proofs.lower.Tie as tie
 
@@ -58,7 +59,7 @@ mul-if3-2 : tie.Need-mul-if3-2
 mul-if3-2 c = search needs
 
 mul-if3-3 : tie.Need-mul-if3-3
-mul-if3-3 c = let s = c .before .before .before .before .before in let r = ranged (s .args .shape .height) (s .args .shape .distance) (s .pre) in let e = c .before .before .sheets .ensures in omega (arith, sheet-le _ _ _ r e)
+mul-if3-3 c = let s = c .before .before .before .before .before in let r = ranged (s .args .shape .height) (s .args .shape .distance) (s .pre) in let e = c .before .before .sheets .ensures in omega (arith, detectors-le _ _ r)
 
 mul-if3-4 : tie.Need-mul-if3-4
 mul-if3-4 c = let s = c .before .before .before .before .before in let r = ranged (s .args .shape .height) (s .args .shape .distance) (s .pre) in let e = c .before .before .sheets .ensures in omega (arith, inner-le _ _ _ r e)
@@ -67,10 +68,10 @@ add-if3-2 : tie.Need-add-if3-2
 add-if3-2 c = let s = c .before .before .before .before .before in let r = ranged (s .args .shape .height) (s .args .shape .distance) (s .pre) in let e = c .before .before .sheets .ensures in omega (arith, boundary-le _ _ _ r e, inner-le _ _ _ r e)
 
 mul-result-2 : tie.Need-mul-result-2
-mul-result-2 c = let s = c .before .before .before .before .before .before in let r = ranged (s .args .shape .height) (s .args .shape .distance) (s .pre) in let e = c .before .before .before .sheets .ensures in omega (arith, sheet-le _ _ _ r e, r .d15)
+mul-result-2 c = let s = c .before .before .before .before .before .before in let r = ranged (s .args .shape .height) (s .args .shape .distance) (s .pre) in let e = c .before .before .before .sheets .ensures in omega (arith, detectors-le _ _ r, r .d15)
 
 add-result-2 : tie.Need-add-result-2
-add-result-2 c = let s = c .before .before .before .before .before .before in let r = ranged (s .args .shape .height) (s .args .shape .distance) (s .pre) in let e = c .before .before .before .sheets .ensures in omega (arith, c .if3 .taken, boundary-le _ _ _ r e, inner-le _ _ _ r e, sheet-le _ _ _ r e, r .d15)
+add-result-2 c = let s = c .before .before .before .before .before .before in let r = ranged (s .args .shape .height) (s .args .shape .distance) (s .pre) in let e = c .before .before .before .sheets .ensures in omega (arith, c .if3 .taken, boundary-le _ _ _ r e, inner-le _ _ _ r e, detectors-le _ _ r, r .d15)
 
 returns-3 : tie.Need-returns-3
 returns-3 c = let s = c .before .before .before .before .before .before in let r = ranged (s .args .shape .height) (s .args .shape .distance) (s .pre) in let e = c .before .before .before .sheets .ensures in lower-inner _ _ _ r e _ (c .before .before .if1 .left) (c .before .if2 .left) (c .if3 .taken)

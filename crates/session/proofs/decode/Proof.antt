@@ -2,7 +2,7 @@
 use mathlib.Core.Path.{sym, _∙_, ap}
 use native.Mathlib.Omega.{arith}
 use borrow.Author.Needs.{needs}
-use Rattle.stream.specs.Calls.{toldHeader}
+use Rattle.record.specs.Calls.{toldHeader}
 use Rattle.window.specs.Calls.{told}
 use Rattle.session.specs.Answers.{toldLine}
 use Rattle.session.proofs.Whole.{Put, header-refused, header-full, rounds-behind}

@@ -1,0 +1,2 @@
+pub mod Stirred
+pub mod Marks

@@ -1,0 +1,73 @@
+/* The proved streams and the proved decoder, for C on x86-64 Linux. Link with target/staticlib/libexports.a (./build.sh).
+ *
+ * Each reader and writer returns one byte:
+ *   0           done; *place is the offset behind the record
+ *   255         no bytes left where a record would start
+ *   7, 8, 9     refused by that number of document 01; *place is the offset of the number's first byte
+ *   any other   refused by that number of document 01
+ * Where nothing is said of *place it stays as it was. Unless 0 is returned, no buffer and no value is changed.
+ * A slice is a pointer and a length; no function keeps one. */
+#ifndef BAIZERIDGE_H
+#define BAIZERIDGE_H
+
+#include <stddef.h>
+#include <stdint.h>
+
+#ifdef __cplusplus
+extern "C" {
+#endif
+
+/* Numbers in groups of seven bits, and sheet lists: a byte 0 or 1 an entry. */
+uint8_t baizeridge_read_number(const uint8_t *src, size_t src_len, size_t at, uint32_t *value, size_t *place);
+uint8_t baizeridge_write_number(uint32_t n, uint8_t *out, size_t out_len, size_t at, size_t *place);
+uint8_t baizeridge_read_list(const uint8_t *src, size_t src_len, size_t at, uint8_t *out, size_t out_len, size_t *place);
+uint8_t baizeridge_write_list(const uint8_t *entries, size_t entries_len, uint8_t *out, size_t out_len, size_t at,
+                              size_t *place);
+
+/* The header, a round of the input and a round of the result, read at an offset. Defects and escapes have a byte a
+ * detector, edges a byte an edge of a layer. */
+uint8_t baizeridge_read_header(const uint8_t *src, size_t src_len, size_t at, uint32_t *height, uint32_t *distance,
+                               size_t *place);
+uint8_t baizeridge_read_round(uint32_t height, uint32_t distance, const uint8_t *src, size_t src_len, size_t at,
+                              uint8_t *defects, size_t defects_len, size_t *place);
+uint8_t baizeridge_read_result(uint32_t height, uint32_t distance, const uint8_t *src, size_t src_len, size_t at,
+                               uint8_t *edges, size_t edges_len, uint8_t *escapes, size_t escapes_len, uint32_t *steps,
+                               size_t *place);
+
+/* The same with the offset lent: *at moves behind what was read, and stays where nothing was. */
+uint8_t baizeridge_take_header(const uint8_t *src, size_t src_len, size_t *at, uint32_t *height, uint32_t *distance,
+                               size_t *place);
+uint8_t baizeridge_take_round(uint32_t height, uint32_t distance, const uint8_t *src, size_t src_len, size_t *at,
+                              uint8_t *defects, size_t defects_len, size_t *place);
+uint8_t baizeridge_take_result(uint32_t height, uint32_t distance, const uint8_t *src, size_t src_len, size_t *at,
+                               uint8_t *edges, size_t edges_len, uint8_t *escapes, size_t escapes_len, uint32_t *steps,
+                               size_t *place);
+
+/* A whole input stream: its shape and how many rounds it has. */
+uint8_t baizeridge_scan_input(const uint8_t *src, size_t src_len, uint32_t *height, uint32_t *distance, size_t *rounds,
+                              size_t *place);
+
+/* The same three, written from an offset on. A writer stores the record's own bytes and no others. */
+uint8_t baizeridge_write_header(uint32_t height, uint32_t distance, uint8_t *out, size_t out_len, size_t at,
+                                size_t *place);
+uint8_t baizeridge_write_round(uint32_t height, uint32_t distance, const uint8_t *defects, size_t defects_len,
+                               uint8_t *out, size_t out_len, size_t at, size_t *place);
+uint8_t baizeridge_write_result(uint32_t height, uint32_t distance, const uint8_t *edges, size_t edges_len,
+                                const uint8_t *escapes, size_t escapes_len, uint32_t steps, uint8_t *out,
+                                size_t out_len, size_t at, size_t *place);
+
+/* Decodes a whole input stream into a result stream. 0: decoded to the input's end; 254: a round ended spent; else the
+ * refusal's number (11: out has no room for the next record). In every case *count is the length of what was written:
+ * the header, if it was read, and the finished rounds. */
+uint8_t baizeridge_decode(const uint8_t *src, size_t src_len, uint8_t *out, size_t out_len, size_t *count);
+
+/* A shape's nodes in a window, detectors of a sheet, and edges of a layer; 0 where the shape is refused. */
+size_t baizeridge_nodes(uint32_t height, uint32_t distance);
+size_t baizeridge_detectors(uint32_t height, uint32_t distance);
+size_t baizeridge_layer_edges(uint32_t height, uint32_t distance);
+
+#ifdef __cplusplus
+}
+#endif
+
+#endif
