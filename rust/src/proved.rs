@@ -231,22 +231,28 @@ pub fn write_round(height: u32, distance: u32, defects: &[u8], out: &mut [u8], a
     }))
 }
 
-pub fn read_result(height: u32, distance: u32, src: &[u8], at: usize, [edges, escapes]: [&mut [u8]; 2]) -> Answer<u32> {
+/// A reader of results: by an offset, or by a lent one.
+type ResultReader<At> =
+    unsafe extern "C" fn(u32, u32, *const u8, usize, At, *mut u8, usize, *mut u8, usize, *mut u32, *mut usize) -> u8;
+
+fn result_by<At>(
+    read: ResultReader<At>,
+    height: u32,
+    distance: u32,
+    src: &[u8],
+    at: At,
+    [edges, escapes]: [&mut [u8]; 2],
+) -> Answer<u32> {
+    let (edges, edges_len) = (edges.as_mut_ptr(), edges.len());
+    let (escapes, escapes_len) = (escapes.as_mut_ptr(), escapes.len());
+    let (from, from_len) = (src.as_ptr(), src.len());
     with_value(answer(|[steps], place| unsafe {
-        baizeridge_read_result(
-            height,
-            distance,
-            src.as_ptr(),
-            src.len(),
-            at,
-            edges.as_mut_ptr(),
-            edges.len(),
-            escapes.as_mut_ptr(),
-            escapes.len(),
-            steps,
-            place,
-        )
+        read(height, distance, from, from_len, at, edges, edges_len, escapes, escapes_len, steps, place)
     }))
+}
+
+pub fn read_result(height: u32, distance: u32, src: &[u8], at: usize, lists: [&mut [u8]; 2]) -> Answer<u32> {
+    result_by(baizeridge_read_result, height, distance, src, at, lists)
 }
 
 /// The lists are the committed edges and the escaped defects.
@@ -293,30 +299,8 @@ pub fn take_round(height: u32, distance: u32, src: &[u8], at: &mut usize, defect
     }))
 }
 
-pub fn take_result(
-    height: u32,
-    distance: u32,
-    src: &[u8],
-    at: &mut usize,
-    [edges, escapes]: [&mut [u8]; 2],
-) -> Answer<u32> {
-    with_value(lend(at, |at| {
-        answer(|[steps], place| unsafe {
-            baizeridge_take_result(
-                height,
-                distance,
-                src.as_ptr(),
-                src.len(),
-                at,
-                edges.as_mut_ptr(),
-                edges.len(),
-                escapes.as_mut_ptr(),
-                escapes.len(),
-                steps,
-                place,
-            )
-        })
-    }))
+pub fn take_result(height: u32, distance: u32, src: &[u8], at: &mut usize, lists: [&mut [u8]; 2]) -> Answer<u32> {
+    lend(at, |at| result_by(baizeridge_take_result, height, distance, src, at, lists))
 }
 
 /// Height, distance and the count of rounds.
