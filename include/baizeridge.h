@@ -1,17 +1,32 @@
 /* The proved streams and the proved decoder, for C on x86-64 Linux. Link with target/staticlib/libexports.a (./build.sh).
  *
- * Each reader and writer returns one byte:
+ * What is returned. Each reader and writer returns one byte:
  *   0           done; *place is the offset behind the record
  *   255         no bytes left where a record would start
  *   7, 8, 9     refused by that number of document 01; *place is the offset of the number's first byte
  *   any other   refused by that number of document 01
- * Where nothing is said of *place it stays as it was. Unless 0 is returned, no buffer and no value is changed.
- * A slice is a pointer and a length; no function keeps one. */
+ * Where nothing is said of *place it stays as it was. Unless 0 is returned, no buffer, no value and no lent offset is
+ * changed. A writer stores the record's own bytes and no others.
+ *
+ * What the caller sees to. The proofs hold where
+ *   - a slice, a pointer and a length, has that many bytes; NULL will do with length 0, and only there;
+ *   - every other pointer points to one value of its type, aligned as C aligns it;
+ *   - all of these are initialised, those too that the call is to store to;
+ *   - what a call may store to, all that is not const, overlaps nothing else that it is handed, while const slices may
+ *     overlap each other.
+ * No pointer is kept when a call returns. There is no state besides the arguments, no allocation, no input or output:
+ * calls on several threads at once are independent if none stores to what another is handed.
+ * baizeridge_decode needs BAIZERIDGE_DECODE_STACK bytes of stack, every other call BAIZERIDGE_STACK; how much does not
+ * depend on the input. */
 #ifndef BAIZERIDGE_H
 #define BAIZERIDGE_H
 
 #include <stddef.h>
 #include <stdint.h>
+
+/* Twice what was measured, and more. */
+#define BAIZERIDGE_DECODE_STACK 1048576
+#define BAIZERIDGE_STACK 32768
 
 #ifdef __cplusplus
 extern "C" {
@@ -43,11 +58,7 @@ uint8_t baizeridge_take_result(uint32_t height, uint32_t distance, const uint8_t
                                uint8_t *edges, size_t edges_len, uint8_t *escapes, size_t escapes_len, uint32_t *steps,
                                size_t *place);
 
-/* A whole input stream: its shape and how many rounds it has. */
-uint8_t baizeridge_scan_input(const uint8_t *src, size_t src_len, uint32_t *height, uint32_t *distance, size_t *rounds,
-                              size_t *place);
-
-/* The same three, written from an offset on. A writer stores the record's own bytes and no others. */
+/* The same three, written from an offset on. */
 uint8_t baizeridge_write_header(uint32_t height, uint32_t distance, uint8_t *out, size_t out_len, size_t at,
                                 size_t *place);
 uint8_t baizeridge_write_round(uint32_t height, uint32_t distance, const uint8_t *defects, size_t defects_len,
@@ -56,10 +67,19 @@ uint8_t baizeridge_write_result(uint32_t height, uint32_t distance, const uint8_
                                 const uint8_t *escapes, size_t escapes_len, uint32_t steps, uint8_t *out,
                                 size_t out_len, size_t at, size_t *place);
 
-/* Decodes a whole input stream into a result stream. 0: decoded to the input's end; 254: a round ended spent; else the
- * refusal's number (11: out has no room for the next record). In every case *count is the length of what was written:
- * the header, if it was read, and the finished rounds. */
-uint8_t baizeridge_decode(const uint8_t *src, size_t src_len, uint8_t *out, size_t out_len, size_t *count);
+/* A whole input stream and a whole result stream: the shape, and how many rounds there are; *place is the length. */
+uint8_t baizeridge_scan_input(const uint8_t *src, size_t src_len, uint32_t *height, uint32_t *distance, size_t *rounds,
+                              size_t *place);
+uint8_t baizeridge_scan_results(const uint8_t *src, size_t src_len, uint32_t *height, uint32_t *distance,
+                                size_t *rounds, size_t *place);
+
+/* Decodes a whole input stream into a result stream at the front of out. Returned is 0 where it was decoded to the
+ * input's end, 254 where a round ended spent, else the refusal's number (11: out has no room for the next record). In
+ * every case *count is the length of what was written: the header's bytes, if it was read and had room, and those of the
+ * finished rounds; the bytes behind them stay as they were. With 7, 8 and 9 *place is the offset in src of the number's
+ * first byte; else it stays as it was, with 0 too. */
+uint8_t baizeridge_decode(const uint8_t *src, size_t src_len, uint8_t *out, size_t out_len, size_t *count,
+                          size_t *place);
 
 /* A shape's nodes in a window, detectors of a sheet, and edges of a layer; 0 where the shape is refused. */
 size_t baizeridge_nodes(uint32_t height, uint32_t distance);

@@ -54,7 +54,7 @@ fn race(input: &[u8], decoded: &Decoded) -> [Duration; 3] {
         time(0, &mut || answer = Some(proved::decode(black_box(input), &mut out)));
         time(1, &mut || plain = Some(dense::decode(black_box(input))));
         time(2, &mut || second = Some(decoder::decode(black_box(input))));
-        assert_eq!((answer, &out), (Some((DECODED, out.len())), &decoded.result));
+        assert_eq!((answer, &out), (Some((DECODED, None, out.len())), &decoded.result));
         assert!(plain.as_ref() == Some(decoded) && second.as_ref() == Some(decoded));
     }
     best

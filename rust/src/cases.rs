@@ -11,10 +11,11 @@ pub const HEADERS: usize = 42_000;
 pub const ROUNDS: usize = 42_000;
 pub const RESULTS: usize = 21_000;
 pub const STREAMS: usize = 21_000;
-/// Whole decodings.
-pub const DECODINGS: usize = 21_000;
 
 const _: () = assert!(NUMBERS + LISTS + HEADERS + ROUNDS + RESULTS + STREAMS >= 100_000);
+
+/// Noise levels: chances in millionths, from 0.1 % to 90 %.
+pub const CHANCES: [usize; 10] = [1_000, 3_000, 10_000, 30_000, 60_000, 100_000, 200_000, 400_000, 700_000, 900_000];
 
 /// Heights and distances that no shape has.
 pub const WILD: [u32; 8] = [0, 16, 17, 127, 128, 0x100 + 3, 1 << 31, u32::MAX];

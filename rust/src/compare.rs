@@ -176,12 +176,17 @@ pub fn scan_input(src: &[u8]) -> Answer<(u32, u32, usize)> {
     both([], || format!("scan_input {src:02x?}"), |[]| streams::scan_input(src), |[]| proved::scan_input(src)).0
 }
 
+pub fn scan_results(src: &[u8]) -> Answer<(u32, u32, usize)> {
+    both([], || format!("scan_results {src:02x?}"), |[]| streams::scan_results(src), |[]| proved::scan_results(src)).0
+}
+
 /// A whole stream into a buffer of `room` bytes, against what the second decoder made of it; the status.
 pub fn decode(input: &[u8], decoded: &Decoded, room: usize) -> u8 {
     let expected = |out: &mut [u8]| {
         let (status, result) = decoded.within(room);
         out[..result.len()].copy_from_slice(result);
-        (status, result.len())
+        let place = decoded.place.filter(|_| status == decoded.status);
+        (status, place, result.len())
     };
     let call = || format!("decode {input:02x?} into {room}");
     both([room], call, |[out]| expected(out), |[out]| proved::decode(input, out)).0 .0

@@ -30,12 +30,11 @@ pub enum Stage {
 pub struct Root {
     detector: bool,
     round: Reverse<i64>,
-    row: usize,
-    column: usize,
+    node: u16,
 }
 
 /// No pointer is C, no mark is reset.
-#[derive(Debug, Clone, PartialEq, Eq)]
+#[derive(Debug, Clone, Copy, PartialEq, Eq)]
 pub struct Node {
     pub active: bool,
     pub defect: bool,
@@ -44,7 +43,7 @@ pub struct Node {
     pub mark: Option<Root>,
 }
 
-#[derive(Debug, Clone, Default, PartialEq, Eq)]
+#[derive(Debug, Clone, Copy, Default, PartialEq, Eq)]
 pub struct Edge {
     pub halves: u8,
     pub correction: bool,
@@ -113,7 +112,7 @@ impl Sheet {
 
     /// The sheets of a window.
     pub fn sheets(&self) -> usize {
-        2 * (self.shape.distance / 2) + 1
+        self.shape.sheets()
     }
 
     pub fn nodes(&self) -> usize {
@@ -142,8 +141,7 @@ impl Sheet {
     }
 
     fn root(&self, round: i64, node: usize) -> Root {
-        let width = self.shape.distance + 1;
-        Root { detector: self.detector(node), round: Reverse(round), row: node / width, column: node % width }
+        Root { detector: self.detector(node), round: Reverse(round), node: node as u16 }
     }
 
     fn fresh(&self, round: i64) -> Layer {
@@ -157,6 +155,9 @@ impl Sheet {
         Layer { nodes: (0..self.nodes()).map(alone).collect(), edges: vec![Edge::default(); self.spans.len()] }
     }
 }
+
+/// A node's edges of growth 2, in the scan order: the direction and the node there, by depth and place.
+type Grown = Vec<(Way, [usize; 2])>;
 
 #[derive(Debug, Clone)]
 pub struct Window {
@@ -199,7 +200,7 @@ impl Window {
     /// The document's number of a root.
     pub fn number(&self, root: Root) -> usize {
         let depth = self.round_at(0) - root.round.0;
-        self.sheet.number(depth as usize, root.row * (self.sheet.shape.distance + 1) + root.column)
+        self.sheet.number(depth as usize, root.node.into())
     }
 
     fn bottom(&self) -> usize {
@@ -213,6 +214,12 @@ impl Window {
             let layer = depth.checked_add_signed(link.layers)?;
             Some((link.way, [there, link.node], [layer, link.edge]))
         })
+    }
+
+    /// The node and the edge in the direction of a pointer.
+    pub fn link(&self, depth: usize, place: usize, pointer: Way) -> ([usize; 2], [usize; 2]) {
+        let mut links = self.links(depth, place).filter(|&(way, ..)| way == pointer);
+        links.next().map(|(_, there, edge)| (there, edge)).expect("pointers go along edges")
     }
 
     pub fn round(&mut self, bytes: &[u8], edges: &mut [u8], escapes: &mut [u8]) -> Result<(), u8> {
@@ -263,63 +270,72 @@ impl Window {
         Ok(())
     }
 
+    /// Of each node, sheet by sheet from the top. No merging step changes it.
+    pub fn grown(&self) -> Vec<Grown> {
+        let places = (0..self.layers.len()).flat_map(|depth| (0..self.sheet.nodes()).map(move |place| (depth, place)));
+        let grown = |&(_, _, [layer, edge]): &(Way, [usize; 2], [usize; 2])| self.layers[layer].edges[edge].halves == 2;
+        places
+            .map(|(depth, place)| self.links(depth, place).filter(grown).map(|(way, there, _)| (way, there)).collect())
+            .collect()
+    }
+
     /// One step; whether some node was busy.
     pub fn merging(&mut self) -> Result<bool, u8> {
         refuse(self.stage != Stage::Merging, 22)?;
-        let old = self.clone();
+        Ok(self.step(&self.grown()))
+    }
+
+    fn step(&mut self, grown: &[Grown]) -> bool {
+        let old: Vec<Vec<Node>> = self.layers.iter().map(|layer| layer.nodes.clone()).collect();
         let mut busy = false;
-        for depth in 0..old.layers.len() {
-            for place in 0..old.sheet.nodes() {
+        for (depth, nodes) in grown.chunks(self.sheet.nodes()).enumerate() {
+            for (place, grown) in nodes.iter().enumerate() {
                 busy |= self.sync(&old, depth, place);
-                busy |= self.flood(&old, depth, place);
+                busy |= self.flood(&old, depth, place, grown);
             }
         }
         if !busy {
             self.stage = Stage::Rest;
         }
-        Ok(busy)
+        busy
     }
 
-    fn sync(&mut self, old: &Window, depth: usize, place: usize) -> bool {
-        let node = &old.layers[depth].nodes[place];
-        let hot = old.sheet.detector(place) && node.defect;
-        let Some(way) = node.pointer else {
-            self.layers[depth].nodes[place].active = hot;
-            return node.active != hot;
-        };
-        let link = old.links(depth, place).find(|&(along, ..)| along == way);
-        let (_, [there, other], [layer, edge]) = link.expect("pointers go along edges");
-        if hot {
-            self.layers[layer].edges[edge].correction ^= true;
-            self.layers[depth].nodes[place].defect ^= true;
-            self.layers[there].nodes[other].defect ^= old.sheet.detector(other);
+    /// Only detectors have defects, so hot is a defect.
+    fn sync(&mut self, old: &[Vec<Node>], depth: usize, place: usize) -> bool {
+        let node = &old[depth][place];
+        let link = node.pointer.map(|way| self.link(depth, place, way));
+        let active = link.map_or(node.defect, |([there, other], _)| old[there][other].active);
+        if active != node.active {
+            self.layers[depth].nodes[place].active = active;
         }
-        let active = old.layers[there].nodes[other].active;
-        self.layers[depth].nodes[place].active = active;
-        hot || active != node.active
+        let Some(([there, other], [layer, edge])) = link.filter(|_| node.defect) else { return active != node.active };
+        self.layers[layer].edges[edge].correction ^= true;
+        self.layers[depth].nodes[place].defect ^= true;
+        self.layers[there].nodes[other].defect ^= self.sheet.detector(other);
+        true
     }
 
-    fn flood(&mut self, old: &Window, depth: usize, place: usize) -> bool {
-        let before = &old.layers[depth].nodes[place];
-        let now = &mut self.layers[depth].nodes[place];
+    fn flood(&mut self, old: &[Vec<Node>], depth: usize, place: usize, grown: &Grown) -> bool {
+        let before = &old[depth][place];
         let Some(mut lowest) = before.mark else {
-            now.mark = Some(old.root(depth, place));
+            let own = self.root(depth, place);
+            let now = &mut self.layers[depth].nodes[place];
+            now.mark = Some(own);
             now.unrooted = true;
             return true;
         };
         let mut busy = false;
-        for (way, [there, other], [layer, edge]) in old.links(depth, place) {
-            if old.layers[layer].edges[edge].halves < 2 {
-                continue;
-            }
-            match old.layers[there].nodes[other].mark {
+        for &(way, [there, other]) in grown {
+            match old[there][other].mark {
                 Some(mark) if mark < lowest => {
                     lowest = mark;
+                    let now = &mut self.layers[depth].nodes[place];
                     now.mark = Some(mark);
                     now.pointer = Some(way);
                     busy = true;
                 }
                 None if !before.unrooted => {
+                    let now = &mut self.layers[depth].nodes[place];
                     now.mark = None;
                     now.pointer = None;
                     return true;
@@ -335,12 +351,9 @@ impl Window {
         if self.stage == Stage::ToGrow {
             self.grow()?;
         }
-        for count in 1..=budget {
-            if !self.merging()? {
-                return Ok(Ran::Rest(count));
-            }
-        }
-        Ok(Ran::Spent(budget))
+        let grown = self.grown();
+        let rest = (1..=budget).find(|_| !self.step(&grown));
+        Ok(rest.map_or(Ran::Spent(budget), Ran::Rest))
     }
 }
 

@@ -30,6 +30,8 @@ pub trait Decoder {
 #[derive(Debug, Clone, PartialEq, Eq)]
 pub struct Decoded {
     pub status: u8,
+    /// The offset that the refusal carries.
+    pub place: Option<usize>,
     pub result: Vec<u8>,
     /// The offsets behind the header and behind each record of the result.
     pub ends: Vec<usize>,
@@ -68,14 +70,26 @@ pub fn number_of(stop: Stop) -> u8 {
 }
 
 pub fn decode<D: Decoder>(input: &[u8]) -> Decoded {
-    let mut decoded = Decoded { status: DECODED, result: vec![], ends: vec![], steps: 0, committed: 0 };
-    decoded.status = rounds::<D>(input, &mut decoded).err().unwrap_or(DECODED);
+    let mut decoded = Decoded { status: DECODED, place: None, result: vec![], ends: vec![], steps: 0, committed: 0 };
+    if let Err(stop) = rounds::<D>(input, &mut decoded) {
+        decoded.status = number_of(stop);
+        decoded.place = place_of(stop);
+    }
     decoded
 }
 
-fn rounds<D: Decoder>(input: &[u8], decoded: &mut Decoded) -> Result<(), u8> {
-    let Done((height, distance), mut at) = streams::read_header(input, 0).map_err(number_of)?;
-    let shape = Shape::new(height, distance).map_err(number_of)?;
+/// The offset of a refusal that carries one.
+fn place_of(stop: Stop) -> Option<usize> {
+    match stop {
+        Stop::RefusedAt(_, place) => Some(place),
+        Stop::Refused(_) | Stop::End => None,
+    }
+}
+
+/// A spent round stops as a refusal does.
+fn rounds<D: Decoder>(input: &[u8], decoded: &mut Decoded) -> Result<(), Stop> {
+    let Done((height, distance), mut at) = streams::read_header(input, 0)?;
+    let shape = Shape::new(height, distance)?;
     decoded.add(&[streams::number_bytes(height), streams::number_bytes(distance)].concat());
     let mut decoder = D::open(shape);
     let (mut bytes, mut escapes, mut edges) =
@@ -84,9 +98,10 @@ fn rounds<D: Decoder>(input: &[u8], decoded: &mut Decoded) -> Result<(), u8> {
         match streams::read_round(height, distance, input, at, &mut bytes) {
             Ok(Done((), next)) => at = next,
             Err(Stop::End) => return Ok(()),
-            Err(stop) => return Err(number_of(stop)),
+            Err(stop) => return Err(stop),
         }
-        let Ran::Rest(steps) = decoder.receive(&bytes, &mut edges, &mut escapes)? else { return Err(SPENT) };
+        let ran = decoder.receive(&bytes, &mut edges, &mut escapes).map_err(Stop::Refused)?;
+        let Ran::Rest(steps) = ran else { return Err(Stop::Refused(SPENT)) };
         decoded
             .add(&[streams::list_bytes(&edges), streams::list_bytes(&escapes), streams::number_bytes(steps)].concat());
         decoded.steps += u64::from(steps);

@@ -1,8 +1,9 @@
 //! A second opinion on the proved code. `streams` says what document 01 asks for, `proved` calls the archive, and
 //! `compare` holds every answer and every byte of the one against the other. `decoder` is a second decoder, which
-//! `decoding` takes through a whole stream; `replay` plays the stored script of `crates/replay` on it, which `script`
+//! `decoding` takes through a whole stream, and `account` holds it to the law; `replay` plays the stored script of `crates/replay` on it, which `script`
 //! writes. `dense` is a plain decoder for the benchmark.
 
+pub mod account;
 pub mod cases;
 pub mod compare;
 pub mod decoder;

@@ -124,7 +124,22 @@ extern "C" {
         rounds: *mut usize,
         place: *mut usize,
     ) -> u8;
-    fn baizeridge_decode(src: *const u8, src_len: usize, out: *mut u8, out_len: usize, written: *mut usize) -> u8;
+    fn baizeridge_scan_results(
+        src: *const u8,
+        src_len: usize,
+        height: *mut u32,
+        distance: *mut u32,
+        rounds: *mut usize,
+        place: *mut usize,
+    ) -> u8;
+    fn baizeridge_decode(
+        src: *const u8,
+        src_len: usize,
+        out: *mut u8,
+        out_len: usize,
+        count: *mut usize,
+        place: *mut usize,
+    ) -> u8;
     fn baizeridge_nodes(height: u32, distance: u32) -> usize;
     fn baizeridge_detectors(height: u32, distance: u32) -> usize;
     fn baizeridge_layer_edges(height: u32, distance: u32) -> usize;
@@ -303,23 +318,34 @@ pub fn take_result(height: u32, distance: u32, src: &[u8], at: &mut usize, lists
     lend(at, |at| result_by(baizeridge_take_result, height, distance, src, at, lists))
 }
 
+/// A reader of a whole stream.
+type Scanner = unsafe extern "C" fn(*const u8, usize, *mut u32, *mut u32, *mut usize, *mut usize) -> u8;
+
 /// Height, distance and the count of rounds.
-pub fn scan_input(src: &[u8]) -> Answer<(u32, u32, usize)> {
+fn scan_by(scan: Scanner, src: &[u8]) -> Answer<(u32, u32, usize)> {
     let mut rounds = PLACE;
     let read = lend(&mut rounds, |rounds| {
-        answer(|[height, distance], place| unsafe {
-            baizeridge_scan_input(src.as_ptr(), src.len(), height, distance, rounds, place)
-        })
+        answer(|[height, distance], place| unsafe { scan(src.as_ptr(), src.len(), height, distance, rounds, place) })
     });
     assert!(read.is_ok() || rounds == PLACE, "{read:?}: a count was stored");
     read.map(|Done([height, distance], next)| Done((height, distance, rounds), next))
 }
 
-/// The status, and the length of the result stream, which is stored in every case.
-pub fn decode(src: &[u8], out: &mut [u8]) -> (u8, usize) {
-    let mut written = PLACE;
-    let status = lend(&mut written, |written| unsafe {
-        baizeridge_decode(src.as_ptr(), src.len(), out.as_mut_ptr(), out.len(), written)
+pub fn scan_input(src: &[u8]) -> Answer<(u32, u32, usize)> {
+    scan_by(baizeridge_scan_input, src)
+}
+
+pub fn scan_results(src: &[u8]) -> Answer<(u32, u32, usize)> {
+    scan_by(baizeridge_scan_results, src)
+}
+
+/// The status, the offset that a refusal carries, and the length of the result stream, which is stored in every case.
+pub fn decode(src: &[u8], out: &mut [u8]) -> (u8, Option<usize>, usize) {
+    let (mut count, mut place) = (PLACE, PLACE);
+    let status = lend(&mut count, |count| {
+        lend(&mut place, |place| unsafe {
+            baizeridge_decode(src.as_ptr(), src.len(), out.as_mut_ptr(), out.len(), count, place)
+        })
     });
-    (status, written)
+    (status, Some(place).filter(|&place| place != PLACE), count)
 }

@@ -37,6 +37,11 @@ impl Shape {
         Ok(Shape { height: height as usize, distance: distance as usize })
     }
 
+    /// Sheets of a window.
+    pub fn sheets(self) -> usize {
+        2 * (self.distance / 2) + 1
+    }
+
     /// Detectors of a sheet.
     pub fn detectors(self) -> usize {
         self.height * (self.distance - 1)
@@ -133,18 +138,32 @@ pub fn read_result(height: u32, distance: u32, src: &[u8], at: usize, [edges, es
     Ok(Done(steps, next))
 }
 
-/// A whole input stream: its height, its distance and how many rounds it has.
-pub fn scan_input(src: &[u8]) -> Answer<(u32, u32, usize)> {
+/// A whole stream: its height, its distance and how many rounds it has. `pass` gives the offset behind a round.
+fn scan(src: &[u8], pass: impl Fn(u32, u32, usize) -> Result<usize, Stop>) -> Answer<(u32, u32, usize)> {
     let Done((height, distance), mut at) = read_header(src, 0)?;
-    let mut defects = vec![0; Shape::new(height, distance)?.detectors()];
     let mut rounds = 0;
     loop {
-        match read_round(height, distance, src, at, &mut defects) {
-            Ok(Done((), next)) => (rounds, at) = (rounds + 1, next),
+        match pass(height, distance, at) {
+            Ok(next) => (rounds, at) = (rounds + 1, next),
             Err(End) => return Ok(Done((height, distance, rounds), at)),
             Err(refused) => return Err(refused),
         }
     }
+}
+
+pub fn scan_input(src: &[u8]) -> Answer<(u32, u32, usize)> {
+    scan(src, |height, distance, at| {
+        let mut defects = vec![0; Shape::new(height, distance)?.detectors()];
+        read_round(height, distance, src, at, &mut defects).map(|Done(_, next)| next)
+    })
+}
+
+pub fn scan_results(src: &[u8]) -> Answer<(u32, u32, usize)> {
+    scan(src, |height, distance, at| {
+        let shape = Shape::new(height, distance)?;
+        let (mut edges, mut escapes) = (vec![0; shape.edges()], vec![0; shape.detectors()]);
+        read_result(height, distance, src, at, [&mut edges, &mut escapes]).map(|Done(_, next)| next)
+    })
 }
 
 // Writers

@@ -1,21 +1,46 @@
-//! The header for C: what it declares, and the example that includes it.
+//! The header for C: what it declares, the programs that include it, and the stack that it promises to suffice.
 
+use baizeridge_tests::noise::{stream, Noise};
+use baizeridge_tests::random::Random;
+use baizeridge_tests::streams::{Done, Shape, Stop};
+use baizeridge_tests::{decoder, proved};
 use std::collections::BTreeSet;
 use std::path::{Path, PathBuf};
-use std::process::Command;
+use std::process::{Command, Output};
 
 fn root() -> PathBuf {
     Path::new(env!("CARGO_MANIFEST_DIR")).parent().expect("rust/ stands in the repository").to_path_buf()
 }
 
+fn text(file: &str) -> String {
+    std::fs::read_to_string(root().join(file)).expect("the file can be read")
+}
+
 /// The exported names that a file has before an opening parenthesis.
 fn names(file: &str) -> BTreeSet<String> {
-    let text = std::fs::read_to_string(root().join(file)).expect("the file can be read");
+    let text = text(file);
     let found = text.match_indices("baizeridge_").filter_map(|(place, _)| {
         let name: String = text[place..].chars().take_while(|c| c.is_alphanumeric() || *c == '_').collect();
         text[place + name.len()..].starts_with('(').then_some(name)
     });
     found.collect()
+}
+
+/// Builds a program with the header and the archive, as the language that the flags name, and runs it.
+fn built_and_run(source: &str, name: &str, flags: &[&str]) -> Output {
+    let program = Path::new(env!("CARGO_TARGET_TMPDIR")).join(name);
+    let built = Command::new("cc")
+        .args(["-Wall", "-Wextra", "-Werror", "-I"])
+        .arg(root().join("include"))
+        .args(flags)
+        .arg(root().join(source))
+        .args(["-x", "none"])
+        .arg(root().join("target/staticlib/libexports.a"))
+        .arg("-o")
+        .arg(&program)
+        .status();
+    assert!(built.expect("cc can be run").success(), "{source} is not built with {flags:?}");
+    Command::new(&program).output().expect("the program can be run")
 }
 
 #[test]
@@ -27,19 +52,73 @@ fn every_exported_function_is_declared() {
 }
 
 #[test]
+fn every_declared_function_is_called() {
+    assert_eq!(names("rust/tests/prototypes.c"), names("include/baizeridge.h"));
+    for (name, flags) in [("prototypes", &["-std=c99", "-pedantic"][..]), ("prototypes_as_c++", &["-x", "c++"])] {
+        let ran = built_and_run("rust/tests/prototypes.c", name, flags);
+        assert!(ran.status.success(), "{name}: {}", String::from_utf8_lossy(&ran.stdout));
+    }
+}
+
+#[test]
 fn the_example_runs() {
-    let program = Path::new(env!("CARGO_TARGET_TMPDIR")).join("session");
-    let built = Command::new("cc")
-        .args(["-std=c99", "-Wall", "-Wextra", "-Werror", "-I"])
-        .arg(root().join("include"))
-        .arg(root().join("examples/session.c"))
-        .arg(root().join("target/staticlib/libexports.a"))
-        .arg("-o")
-        .arg(&program)
-        .status();
-    assert!(built.expect("cc can be run").success());
-    let ran = Command::new(&program).output().expect("the example can be run");
+    let ran = built_and_run("examples/session.c", "session", &["-std=c99"]);
     assert!(ran.status.success());
-    let expected = "1 by 3, 4 rounds\n2 steps, edges\n1 steps, edges\n4 steps, edges\n2 steps, edges 0\n";
+    let expected = "1 by 3, 4 rounds\n2 steps, edges\n1 steps, edges\n4 steps, edges\n2 steps, edges 0\n\
+                    refused 7 at byte 3, 2 bytes written\n";
     assert_eq!(String::from_utf8_lossy(&ran.stdout), expected);
+    let shown: String = expected.lines().map(|line| format!("    {line}\n")).collect();
+    assert!(text("README.md").contains(&shown), "the README shows another output");
+}
+
+/// A number that the header defines.
+fn defined(name: &str) -> usize {
+    let text = text("include/baizeridge.h");
+    let line = text.lines().find_map(|line| line.strip_prefix("#define ")?.strip_prefix(name)?.strip_prefix(' '));
+    line.expect("the header defines it").parse().expect("a number")
+}
+
+/// Runs a call on a thread that has no more stack than the header names; a call that needs more ends the test's process.
+fn with_stack<R: Send + 'static>(name: &str, call: impl FnOnce() -> R + Send + 'static) -> R {
+    let thread = std::thread::Builder::new().stack_size(defined(name)).spawn(call);
+    thread.expect("a thread can be started").join().expect("the call returns")
+}
+
+/// The largest shape with dense noise.
+#[test]
+fn the_stack_suffices_to_decode() {
+    let shape = Shape::new(15, 15).expect("a shape in range");
+    for chance in [100_000, 500_000] {
+        let input = stream(shape, 40, Noise::Defects(chance), &mut Random::new(0x7374_6163, 0));
+        let decoded = decoder::decode(&input);
+        let mut out = vec![0; decoded.result.len()];
+        let (told, out) = with_stack("BAIZERIDGE_DECODE_STACK", move || (proved::decode(&input, &mut out), out));
+        assert_eq!((told, &out), ((0, None, out.len()), &decoded.result));
+    }
+}
+
+/// Every reader and writer, on the longest lists.
+#[test]
+fn the_stack_suffices_to_read_and_write() {
+    let ones = (vec![1; 210], vec![1; 631]);
+    let ran = with_stack("BAIZERIDGE_STACK", move || {
+        let (defects, edges) = ones;
+        let mut out = vec![0; 2_000];
+        let (mut to_defects, mut to_edges) = (vec![0; 210], vec![0; 631]);
+        let Done((), header) = proved::write_header(15, 15, &mut out, 0)?;
+        proved::read_header(&out, 0)?;
+        let Done((), end) = proved::write_round(15, 15, &defects, &mut out, header)?;
+        proved::read_round(15, 15, &out, header, &mut to_defects)?;
+        proved::scan_input(&out[..end])?;
+        let Done((), end) = proved::write_result(15, 15, [&edges, &defects], u32::MAX, &mut out, header)?;
+        proved::read_result(15, 15, &out, header, [&mut to_edges, &mut to_defects])?;
+        proved::scan_results(&out[..end])?;
+        let Done((), end) = proved::write_list(&edges, &mut out, 0)?;
+        proved::read_list(&out[..end], 0, &mut to_edges)?;
+        proved::write_number(u32::MAX, &mut out, 0)?;
+        proved::read_number(&out, 0)?;
+        proved::sizes(15, 15);
+        Ok::<_, Stop>((to_defects == defects, to_edges == edges))
+    });
+    assert_eq!(ran, Ok((true, true)));
 }

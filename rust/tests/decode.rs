@@ -1,42 +1,42 @@
-//! The exported decoding of whole streams against the second decoder. No stream that we know spends the budget of a
-//! round, or has a defect escape; the script of `replay` has both, with small budgets and on edited windows.
+//! The exported decoding of whole streams against the second decoder, which is held to the law on the way. No stream
+//! that we know spends the budget of a round, or has a defect escape; the script of `replay` has both, with small budgets
+//! and on edited windows.
 
-use baizeridge_tests::cases::{each_case, shapes, DECODINGS};
+use baizeridge_tests::account::Accounted;
+use baizeridge_tests::cases::{each_case, shapes, CHANCES};
 use baizeridge_tests::compare;
 use baizeridge_tests::decoder;
-use baizeridge_tests::decoding::{Decoded, DECODED};
+use baizeridge_tests::decoding::{self, Decoded, DECODED};
 use baizeridge_tests::noise::{stream, Noise};
 use baizeridge_tests::random::Random;
-use baizeridge_tests::streams::{number_bytes, Shape};
+use baizeridge_tests::streams::{number_bytes, read_number, Done, Shape};
 use baizeridge_tests::tally::Tally;
-use std::collections::BTreeSet;
+use std::collections::{BTreeMap, BTreeSet};
 
-/// Chances in millionths, from 0.1 % to 90 %.
-const CHANCES: [usize; 10] = [1_000, 3_000, 10_000, 30_000, 60_000, 100_000, 200_000, 400_000, 700_000, 900_000];
-
-/// What a test went through: shapes, those of which an edge was committed, rounds and edges.
+/// By shape: received rounds that left the window, and committed edges of their layers.
 #[derive(Debug, Default)]
-struct Covered {
-    shapes: BTreeSet<(usize, usize)>,
-    committing: BTreeSet<(usize, usize)>,
-    rounds: usize,
-    committed: usize,
-}
+struct Covered(BTreeMap<(usize, usize), [usize; 2]>);
 
 impl Covered {
     fn note(&mut self, shape: Shape, decoded: &Decoded) {
-        self.shapes.insert((shape.height, shape.distance));
-        if decoded.committed > 0 {
-            self.committing.insert((shape.height, shape.distance));
+        let [left, committed] = self.0.entry((shape.height, shape.distance)).or_default();
+        // The first s records commit the layers of the rounds before the first.
+        for &at in &decoded.ends[shape.sheets()..decoded.rounds()] {
+            let Ok(Done(edges, _)) = read_number(&decoded.result, at) else { panic!("a record starts with its edges") };
+            *left += 1;
+            *committed += edges as usize;
         }
-        self.rounds += decoded.rounds();
-        self.committed += decoded.committed;
     }
-}
 
-/// A shape's sheets.
-fn sheets(shape: Shape) -> usize {
-    2 * (shape.distance / 2) + 1
+    /// The shapes of which a received round left the window, and those of which edges were committed too.
+    fn shapes(&self) -> [usize; 2] {
+        [0, 1].map(|part| self.0.values().filter(|counts| counts[part] > 0).count())
+    }
+
+    /// All rounds that left, and all edges.
+    fn sums(&self) -> [usize; 2] {
+        [0, 1].map(|part| self.0.values().map(|counts| counts[part]).sum())
+    }
 }
 
 fn noise(chance: usize, random: &mut Random) -> Noise {
@@ -45,7 +45,7 @@ fn noise(chance: usize, random: &mut Random) -> Noise {
 
 /// Decodes on both sides, with a few bytes to spare.
 fn decoded(input: &[u8], spare: usize) -> Decoded {
-    let decoded = decoder::decode(input);
+    let decoded = decoding::decode::<Accounted>(input);
     compare::decode(input, &decoded, decoded.result.len() + spare);
     decoded
 }
@@ -58,32 +58,52 @@ fn decode_random(shape: Shape, rounds: usize, chance: usize, random: &mut Random
     covered.note(shape, &decoded);
 }
 
-/// Streams of a few rounds, fewer the larger the shape, with any noise.
-#[test]
-fn random_streams() {
+/// Streams of more than 2s rounds at each noise level: several of a small shape, one of a larger one, and of those with
+/// 700 nodes and more only at every second level, then third and fourth.
+fn through_the_window(seed: u64, chances: &[usize]) -> Vec<Covered> {
     let shapes = shapes();
-    let mut covered = Covered::default();
-    each_case(0x6465_636f, DECODINGS, |case, random| {
-        let (_, _, shape) = shapes[case % shapes.len()];
-        let rounds = (1 + 150 / (shape.height * shape.distance)).min(sheets(shape) + random.below(10));
-        decode_random(shape, rounds, random.pick(&CHANCES), random, &mut covered);
+    let mut levels: Vec<Covered> = chances.iter().map(|_| Covered::default()).collect();
+    each_case(seed, chances.len() * shapes.len(), |case, random| {
+        let (level, (_, _, shape)) = (case / shapes.len(), shapes[case % shapes.len()]);
+        let (h, d, s) = (shape.height, shape.distance, shape.sheets());
+        let every = (1 + h * (d + 1) * s / 700).min(4);
+        if (h + d + level) % every > 0 {
+            return;
+        }
+        for _ in 0..1 + 40 / (h * d) {
+            let rounds = 2 * s + 1 + random.below(5);
+            decode_random(shape, rounds, chances[level], random, &mut levels[level]);
+        }
     });
-    assert_eq!(covered.shapes.len(), 210);
-    assert!(covered.rounds >= 80_000 && covered.committed >= 20_000, "{covered:?}");
+    levels
 }
 
-/// Streams with little noise whose first rounds fall through the window.
+/// A received round of each of the 210 shapes left the window, and at each level this much or more.
+fn expect_all_shapes(levels: &[Covered]) {
+    let all: BTreeSet<_> = levels.iter().flat_map(|covered| covered.0.keys()).collect();
+    assert_eq!(all.len(), 210);
+    for covered in levels {
+        let ([shapes, _], [rounds, edges]) = (covered.shapes(), covered.sums());
+        assert_eq!(shapes, covered.0.len());
+        assert!(shapes >= 155 && rounds >= 3_500 && edges >= 400, "{shapes} shapes, {rounds} rounds, {edges} edges");
+    }
+}
+
+/// From 0.1 % to 10 %.
 #[test]
-fn through_the_window() {
-    let shapes = shapes();
-    let mut covered = Covered::default();
-    each_case(0x7468_726f, 6 * shapes.len(), |case, random| {
-        let (_, _, shape) = shapes[case % shapes.len()];
-        let rounds = sheets(shape) + 1 + random.below(10) + 100 / (shape.height * shape.distance);
-        decode_random(shape, rounds, random.pick(&CHANCES[..4]), random, &mut covered);
-    });
-    assert_eq!(covered.committing.len(), 210);
-    assert!(covered.rounds >= 20_000 && covered.committed >= 10_000, "{covered:?}");
+fn little_noise() {
+    expect_all_shapes(&through_the_window(0x6c69_7474, &CHANCES[..6]));
+}
+
+/// From 20 % to 90 %: edges are committed in every shape, at every level that it is decoded at.
+#[test]
+fn dense_noise() {
+    let levels = through_the_window(0x6465_6e73, &CHANCES[6..]);
+    expect_all_shapes(&levels);
+    for covered in &levels {
+        let [shapes, committing] = covered.shapes();
+        assert_eq!(committing, shapes);
+    }
 }
 
 #[test]
@@ -96,8 +116,9 @@ fn long_runs() {
         let shape = Shape::new(height, distance).expect("a shape in range");
         decode_random(shape, rounds, CHANCES[case % CHANCES.len()], random, &mut covered);
     });
-    assert_eq!(covered.committing.len(), runs.len());
-    assert!(covered.rounds >= 80_000 && covered.committed >= 30_000, "{covered:?}");
+    let ([rounds, edges], shapes) = (covered.sums(), covered.shapes());
+    assert_eq!(shapes, [runs.len(); 2]);
+    assert!(rounds >= 80_000 && edges >= 30_000, "{rounds} rounds, {edges} edges");
 }
 
 /// Bytes that end a stream with a refusal, after the rounds before it.

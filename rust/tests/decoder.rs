@@ -1,5 +1,7 @@
 //! The second decoder on what document 01 prints.
 
+use baizeridge_tests::account::Accounted;
+use baizeridge_tests::cases::CHANCES;
 use baizeridge_tests::decoder::{self, Sheet, Stage, Window};
 use baizeridge_tests::decoding::{Ran, DECODED};
 use baizeridge_tests::random::Random;
@@ -120,48 +122,27 @@ fn buffers_that_are_too_small() {
     assert_eq!(decoded.within(15), (DECODED, &decoded.result[..]));
 }
 
-/// Random rounds, on every shape: what is committed and pending, with what escaped, explains every defect received.
+/// The law after every call, refused ones among them, on every shape; a large one has few rounds. `tests/decode.rs` has
+/// it after every round of its streams, which go through the whole window.
 #[test]
 fn every_defect_is_accounted_for() {
-    for (case, (h, d, _)) in baizeridge_tests::cases::shapes().into_iter().enumerate() {
+    for (case, (_, _, shape)) in baizeridge_tests::cases::shapes().into_iter().enumerate() {
         let mut random = Random::new(0xde0d, case as u64);
-        let (mut window, mut edges, mut escapes) = opened(h, d);
-        let sheet = window.sheet.clone();
-        let percent = random.pick(&[1, 3, 10, 30]);
-        // Parity of each detector, of the rounds that left the window and of those in it, by round from 0.
-        let mut parity = vec![vec![false; sheet.nodes()]; sheet.sheets()];
-        let flip = |parity: &mut Vec<Vec<bool>>, round: usize, edge: usize| {
-            let span = sheet.spans[edge];
-            parity[round][span.near] ^= true;
-            parity[round + usize::from(span.above)][span.far] ^= true;
-        };
-        let detectors: Vec<usize> = (0..sheet.nodes()).filter(|&node| sheet.detector(node)).collect();
-        for count in 0..6 {
-            let bytes: Vec<u8> = detectors.iter().map(|_| u8::from(random.below(100) < percent)).collect();
-            window.round(&bytes, &mut edges, &mut escapes).expect("a round");
-            parity.push(vec![false; sheet.nodes()]);
-            let top = parity.len() - 1;
-            for (&byte, &node) in bytes.iter().zip(&detectors) {
-                parity[top][node] ^= byte == 1;
+        let mut accounted = Accounted::new(shape);
+        let (mut edges, mut escapes) = (vec![7; shape.edges()], vec![7; shape.detectors()]);
+        let chance = random.pick(&CHANCES);
+        for _ in 0..3 + 400 / (shape.height * shape.distance) {
+            let bytes: Vec<u8> = (0..shape.detectors()).map(|_| random.hit(chance).into()).collect();
+            accounted.round(&bytes, &mut edges, &mut escapes).expect("a round");
+            accounted.check();
+            assert_eq!(accounted.round(&bytes, &mut edges, &mut escapes), Err(22));
+            accounted.window.grow().expect("a growth");
+            accounted.check();
+            while accounted.window.merging().expect("a step") {
+                accounted.check();
             }
-            for (&byte, &node) in escapes.iter().zip(&detectors) {
-                parity[count][node] ^= byte == 1;
-            }
-            for edge in (0..edges.len()).filter(|&edge| edges[edge] == 1) {
-                flip(&mut parity, count, edge);
-            }
-            assert!(matches!(window.run(65_536), Ok(Ran::Rest(_))));
-            let mut now = parity.clone();
-            for (depth, layer) in window.layers.iter().enumerate() {
-                let round = top - depth;
-                for edge in (0..layer.edges.len()).filter(|&edge| layer.edges[edge].correction) {
-                    flip(&mut now, round, edge);
-                }
-                for &node in &detectors {
-                    now[round][node] ^= layer.nodes[node].defect;
-                }
-            }
-            assert!(now.iter().all(|sheet| detectors.iter().all(|&node| !sheet[node])), "{h} by {d}");
+            accounted.check();
+            assert_eq!((accounted.window.stage, accounted.window.grow()), (Stage::Rest, Err(22)));
         }
     }
 }

@@ -1,6 +1,6 @@
-//! The program `decode`: standard input, standard output and standard error. It always ends with status 0: a program in
-//! Rattle has no exit status, and the line on standard error tells what went wrong. No stream that we know ends `spent`
-//! with the program's budget; small budgets are in the script of `replay`.
+//! The program `decode`: standard input, standard output and standard error. Unless a signal ends it, its status is 0: a
+//! program in Rattle has no exit status, and the line on standard error tells what went wrong. No stream that we know ends
+//! `spent` with the program's budget; small budgets are in the script of `replay`.
 
 use baizeridge_tests::cases::{each_case, shapes};
 use baizeridge_tests::decoder::Window;
@@ -8,15 +8,39 @@ use baizeridge_tests::decoding::{self, Output, LONGEST};
 use baizeridge_tests::noise::{stream, Noise};
 use baizeridge_tests::random::Random;
 use baizeridge_tests::streams::Shape;
+use std::fs::{read, write, File, OpenOptions};
 use std::io::{ErrorKind, Write};
-use std::path::Path;
-use std::process::{Command, Stdio};
+use std::net::Shutdown;
+use std::os::fd::OwnedFd;
+use std::os::unix::net::UnixStream;
+use std::os::unix::process::ExitStatusExt;
+use std::path::{Path, PathBuf};
+use std::process::{self, Command, Stdio};
+use std::sync::atomic::{AtomicUsize, Ordering};
+
+/// Document 01's first session, and its result.
+const FIRST: [u8; 7] = [1, 3, 1, 0, 0, 0, 0];
+const FIRST_RESULT: [u8; 15] = [1, 3, 0, 0, 2, 0, 0, 1, 0, 0, 4, 1, 0, 0, 2];
+
+/// Their numbers on Linux.
+const SIGPIPE: i32 = 13;
+const SIGXFSZ: i32 = 25;
+
+fn program() -> Command {
+    let program = Path::new(env!("CARGO_MANIFEST_DIR")).join("../target/bin/decode");
+    assert!(program.exists(), "no program to test: run `rt check decode` at the repository's root first");
+    Command::new(program)
+}
+
+/// What the program wrote; it ended with status 0.
+fn written(output: process::Output) -> Output {
+    assert!(output.status.success(), "the program ended with {}", output.status);
+    Output { stdout: output.stdout, stderr: String::from_utf8(output.stderr).expect("its line is text") }
+}
 
 /// What the program writes when its input comes in pieces of so many bytes.
 fn run_in_pieces(input: &[u8], size: usize) -> Output {
-    let program = Path::new(env!("CARGO_MANIFEST_DIR")).join("../target/bin/decode");
-    assert!(program.exists(), "no program to test: run `rt check decode` at the repository's root first");
-    let mut child = Command::new(program)
+    let mut child = program()
         .stdin(Stdio::piped())
         .stdout(Stdio::piped())
         .stderr(Stdio::piped())
@@ -35,8 +59,7 @@ fn run_in_pieces(input: &[u8], size: usize) -> Output {
         });
         child.wait_with_output().expect("the program ends")
     });
-    assert!(output.status.success(), "the program ended with {}", output.status);
-    Output { stdout: output.stdout, stderr: String::from_utf8(output.stderr).expect("its line is text") }
+    written(output)
 }
 
 fn run(input: &[u8]) -> Output {
@@ -61,8 +84,7 @@ fn compared(input: &[u8]) -> Output {
 
 #[test]
 fn printed_sessions() {
-    let first = [[1, 3].as_slice(), &[0, 0, 2], &[0, 0, 1], &[0, 0, 4], &[1, 0, 0, 2]].concat();
-    assert_eq!(run(&[1, 3, 1, 0, 0, 0, 0]), decoded(&first));
+    assert_eq!(run(&FIRST), decoded(&FIRST_RESULT));
     let second = [[1, 3].as_slice(), &[0, 0, 2], &[0, 0, 5], &[0, 0, 1], &[1, 1, 0, 1]].concat();
     assert_eq!(run(&[1, 3, 2, 0, 0, 0, 0, 0]), decoded(&second));
     // 1 by 2, one defect: a tie, and west, edge 0, is committed.
@@ -136,7 +158,155 @@ fn random_streams() {
 /// The example beside the program, which `rt check decode` runs it on.
 #[test]
 fn stored_example() {
-    let file = |name| std::fs::read(concat!(env!("CARGO_MANIFEST_DIR"), "/../crates/decode/").to_owned() + name);
+    let file = |name| read(concat!(env!("CARGO_MANIFEST_DIR"), "/../crates/decode/").to_owned() + name);
     let [input, result] = ["stdin", "stdout"].map(|name| file(name).expect("the example can be read"));
     assert_eq!(compared(&input), decoded(&result));
+}
+
+/// The program as the shell starts it after a command of its own.
+fn program_after(command: &str) -> Command {
+    let mut shell = Command::new("bash");
+    shell.arg("-c").arg(format!("{command}; exec \"$0\"")).arg(program().get_program());
+    shell
+}
+
+/// How the program ends with this standard input and output.
+fn ended(mut command: Command, input: impl Into<Stdio>, output: impl Into<Stdio>) -> process::Output {
+    let child = command.stdin(input).stdout(output).stderr(Stdio::piped()).spawn().expect("the program starts");
+    child.wait_with_output().expect("the program ends")
+}
+
+/// A path below target/ that no other call is given.
+fn new_path() -> PathBuf {
+    static COUNT: AtomicUsize = AtomicUsize::new(0);
+    let number = COUNT.fetch_add(1, Ordering::Relaxed);
+    Path::new(env!("CARGO_TARGET_TMPDIR")).join(format!("program-{}-{number}", process::id()))
+}
+
+/// An open file of these bytes, which has no name any more.
+fn file_of(bytes: &[u8]) -> File {
+    let path = new_path();
+    write(&path, bytes).expect("a file can be written");
+    let file = File::open(&path).expect("the file can be read");
+    std::fs::remove_file(path).expect("the file can be removed");
+    file
+}
+
+fn readable(path: &str) -> File {
+    File::open(path).unwrap_or_else(|error| panic!("{path}: {error}"))
+}
+
+fn writable(path: &str) -> File {
+    OpenOptions::new().write(true).open(path).unwrap_or_else(|error| panic!("{path}: {error}"))
+}
+
+#[test]
+fn unread_input() {
+    // A directory; this process's memory at address 0, where it has none; what can only be written.
+    for input in [readable("/"), readable("/proc/self/mem"), writable("/dev/null")] {
+        assert_eq!(written(ended(program(), input, Stdio::piped())), stopped(&[], "unread"));
+    }
+    assert_eq!(written(ended(program_after("exec <&-"), Stdio::null(), Stdio::piped())), stopped(&[], "unread"));
+}
+
+/// A socket that does not wait: what came of the input is a whole stream, and the read behind it fails.
+#[test]
+fn input_unread_behind_some_bytes() {
+    let inputs = [FIRST.to_vec(), of_length(LONGEST), of_length(LONGEST + 1)];
+    for (input, line) in inputs.iter().zip(["unread", "unread", "long"]) {
+        let (mut sender, receiver) = UnixStream::pair().expect("sockets can be made");
+        for end in [&sender, &receiver] {
+            end.set_nonblocking(true).expect("a socket can be set not to wait");
+        }
+        sender.write_all(input).expect("the socket has room");
+        let output = ended(program(), OwnedFd::from(receiver), Stdio::piped());
+        assert_eq!(written(output), stopped(&[], line));
+    }
+}
+
+/// Whatever the decoding ends with, and whether the result has one buffer or more, `unwritten` is the only line.
+#[test]
+fn unwritten_result() {
+    let closed = || program_after("exec >&-");
+    for input in [FIRST.to_vec(), vec![1, 3], vec![1, 3, 1], of_length(LONGEST)] {
+        let unwritten = stopped(&[], "unwritten");
+        for output in [writable("/dev/full"), readable("/dev/null")] {
+            assert_eq!(written(ended(program(), file_of(&input), output)), unwritten);
+        }
+        assert_eq!(written(ended(closed(), file_of(&input), Stdio::null())), unwritten);
+    }
+    // No byte of a result was to be written.
+    assert_eq!(written(ended(closed(), file_of(&[0]), Stdio::null())), stopped(&[], "refused 1"));
+}
+
+/// What the program leaves in a file, and how it ends, after a command of the shell.
+fn into_file(command: &str, input: &[u8]) -> (Vec<u8>, process::Output) {
+    let path = new_path();
+    let file = File::create(&path).expect("a file can be made");
+    let output = ended(program_after(command), file_of(input), file);
+    let left = read(&path).expect("the file can be read");
+    std::fs::remove_file(path).expect("the file can be removed");
+    (left, output)
+}
+
+/// A limit on a file's size, in kilobytes: before the first byte, within the first buffer, within the second, and behind
+/// the last byte. Where the file takes a part, the program stops there and says so. Where it has no room for a single
+/// byte, the signal that comes with the limit ends the program before its line, unless it was started with that ignored.
+#[test]
+fn limited_result() {
+    for (length, limit, is_cut) in [(1_000, 0, true), (1_000, 1, true), (30_000, 70, true), (1_000, 4, false)] {
+        let input = of_length(length);
+        let whole = decoding::program::<Window>(&input).stdout;
+        let expected = if is_cut { &whole[..limit * 1024] } else { &whole };
+        for ignored in ["trap '' XFSZ; ", ""] {
+            let (left, output) = into_file(&format!("{ignored}ulimit -c 0; ulimit -f {limit}"), &input);
+            assert!(left == expected, "{} bytes are left", left.len());
+            if limit == 0 && ignored.is_empty() {
+                assert!(output.stderr.is_empty());
+                assert_eq!(output.status.signal(), Some(SIGXFSZ));
+            } else {
+                assert_eq!(written(output), if is_cut { stopped(&[], "unwritten") } else { decoded(&[]) });
+            }
+        }
+    }
+}
+
+/// A result that nobody reads: its signal, likewise.
+#[test]
+fn result_without_a_reader() {
+    let without_reader = || {
+        let (writer, reader) = UnixStream::pair().expect("sockets can be made");
+        reader.shutdown(Shutdown::Read).expect("a socket can be shut");
+        OwnedFd::from(writer)
+    };
+    let output = ended(program_after("trap '' PIPE"), file_of(&FIRST), without_reader());
+    assert_eq!(written(output), stopped(&[], "unwritten"));
+    let output = ended(program(), file_of(&FIRST), without_reader());
+    assert!(output.stderr.is_empty());
+    assert_eq!(output.status.signal(), Some(SIGPIPE));
+}
+
+/// A file system that tells only at the close that bytes are lost, as one over the network may.
+#[test]
+fn result_lost_at_the_close() {
+    let [source, library] = ["close.c", "close.so"].map(|name| Path::new(env!("CARGO_TARGET_TMPDIR")).join(name));
+    write(&source, "int close(int descriptor) { return descriptor == 1 ? -1 : 0; }\n").expect("a file can be written");
+    let built = Command::new("cc").args(["-shared", "-fPIC"]).arg(&source).arg("-o").arg(&library).status();
+    assert!(built.expect("cc can be run").success());
+    for input in [FIRST.to_vec(), vec![1, 3, 1]] {
+        let mut command = program();
+        command.env("LD_PRELOAD", &library);
+        let result = decoding::program::<Window>(&input).stdout;
+        assert_eq!(written(ended(command, file_of(&input), Stdio::piped())), stopped(&result, "unwritten"));
+    }
+}
+
+/// Where standard error cannot be written either, nothing can be told.
+#[test]
+fn unwritten_line() {
+    for command in ["exec 2>/dev/full", "exec 2>&-"] {
+        assert_eq!(written(ended(program_after(command), readable("/"), Stdio::piped())), decoded(&[]));
+        let output = ended(program_after(command), file_of(&FIRST), Stdio::piped());
+        assert_eq!(written(output), decoded(&FIRST_RESULT));
+    }
 }

@@ -1,19 +1,17 @@
 //! Whole streams, from the header to the end, on the archive alone.
 
 use baizeridge_tests::cases::{each_case, shapes, STREAMS};
-use baizeridge_tests::compare::scan_input;
+use baizeridge_tests::compare::{scan_input, scan_results};
 use baizeridge_tests::proved;
 use baizeridge_tests::random::Random;
-use baizeridge_tests::streams::{number_bytes, Done, Shape, Stop};
+use baizeridge_tests::streams::{number_bytes, Answer, Done, Shape, Stop};
 
 /// A kind of stream: what a record holds, and how the archive reads and writes one.
 trait Record: Sized + Clone + PartialEq + std::fmt::Debug {
     fn random(shape: Shape, random: &mut Random) -> Self;
     fn take(h: u32, d: u32, src: &[u8], at: &mut usize) -> Result<Self, Stop>;
     fn write(&self, h: u32, d: u32, out: &mut [u8], at: usize) -> Result<Done<()>, Stop>;
-
-    /// Where the archive has a call for whole streams of the kind: it finds what reading record by record finds.
-    fn counted(_src: &[u8], _read: &Read<Self>) {}
+    fn scan(src: &[u8]) -> Answer<(u32, u32, usize)>;
 }
 
 /// A whole stream's height, distance and records, or why it is refused.
@@ -43,12 +41,8 @@ impl Record for Input {
         proved::write_round(h, d, &self.defects, out, at)
     }
 
-    fn counted(src: &[u8], read: &Read<Input>) {
-        let found = scan_input(src).map(|Done(found, end)| (found, end));
-        assert_eq!(
-            found,
-            read.as_ref().map(|(h, d, rounds)| ((*h, *d, rounds.len()), src.len())).map_err(|&stop| stop)
-        );
+    fn scan(src: &[u8]) -> Answer<(u32, u32, usize)> {
+        scan_input(src)
     }
 }
 
@@ -73,6 +67,10 @@ impl Record for Output {
 
     fn write(&self, h: u32, d: u32, out: &mut [u8], at: usize) -> Result<Done<()>, Stop> {
         proved::write_result(h, d, [&self.edges, &self.escapes], self.steps, out, at)
+    }
+
+    fn scan(src: &[u8]) -> Answer<(u32, u32, usize)> {
+        scan_results(src)
     }
 }
 
@@ -118,6 +116,7 @@ fn a_list_of_rounds_reads_back<R: Record>(seed: u64) {
         let rounds: Vec<R> = (0..random.below(8)).map(|_| R::random(shape, random)).collect();
         let stream = write_all(h, d, &rounds, 12_000).expect("the room is enough");
         assert_eq!(read_all(&stream), Ok((h, d, rounds.clone())));
+        assert_eq!(R::scan(&stream), Ok(Done((h, d, rounds.len()), stream.len())));
         assert_eq!(write_all(h, d, &rounds, stream.len()).as_ref(), Ok(&stream));
         assert_eq!(write_all(h, d, &rounds, stream.len() - 1), Err(Stop::Refused(11)));
         read_back += 1;
@@ -141,7 +140,8 @@ fn an_accepted_stream_is_written_alike<R: Record>(seed: u64) {
             random.damaged(&write_all(h, d, &rounds, 12_000).expect("the room is enough"))
         };
         let read = read_all::<R>(&src);
-        R::counted(&src, &read);
+        let counted = read.as_ref().map(|(h, d, rounds)| Done((*h, *d, rounds.len()), src.len()));
+        assert_eq!(R::scan(&src), counted.map_err(|&stop| stop));
         let Ok((h, d, records)) = read else {
             refused += 1;
             return;
@@ -183,4 +183,17 @@ fn whole_inputs_are_counted() {
     assert_eq!(scan_input(&[]), Err(Stop::RefusedAt(7, 0)));
     assert_eq!(scan_input(&[16, 3]), Err(Stop::Refused(1)));
     assert_eq!(scan_input(&[1, 3, 0, 3]), Err(Stop::RefusedAt(9, 3)));
+}
+
+#[test]
+fn whole_results_are_counted() {
+    let session = [1, 3, 0, 0, 2, 0, 0, 1, 0, 0, 4, 1, 0, 0, 2];
+    assert_eq!(scan_results(&session), Ok(Done((1, 3, 4), 15)));
+    assert_eq!(scan_results(&session[..2]), Ok(Done((1, 3, 0), 2)));
+    assert_eq!(scan_results(&session[..4]), Err(Stop::RefusedAt(7, 4)));
+    assert_eq!(scan_results(&[]), Err(Stop::RefusedAt(7, 0)));
+    assert_eq!(scan_results(&[1, 16]), Err(Stop::Refused(2)));
+    // 1 by 3 has five edges a layer, and two detectors a sheet.
+    assert_eq!(scan_results(&[1, 3, 1, 5]), Err(Stop::RefusedAt(9, 3)));
+    assert_eq!(scan_results(&[1, 3, 0, 3]), Err(Stop::RefusedAt(9, 3)));
 }

@@ -2,8 +2,8 @@
 use Prim.Native.Nat.{ℕ}
 use mathlib.Core.Bool.{Bool, true, false}
 use mathlib.Core.List.{List}
-use Rattle.refusal.specs.Answer.{Answer, done, turned, andThen, passed, valueOr, itself}
-use Rattle.shape.specs.Steps.{Table}
+use Rattle.refusal.specs.Answer.{Answer, done, turned, andThen, withoutValue, valueOr, itself}
+use Rattle.steps.specs.Steps.{Table}
 use Rattle.window.specs.Window.{isRest}
 use Rattle.window.specs.Calls.{Answered, given, windowOf, edgesOf, escapesOf, roundCall, mergingCall, runCall}
 use Rattle.window.specs.declared.Window.{Window}
@@ -14,27 +14,27 @@ use Rattle.calls.specs.declared.Merged.the-variants as merged
 
 -- ROUND: the answer, the window and both buffers
 
-pub record Received : Type 0 where
+pub record RoundReturned : Type 0 where
   pub answer : Answer (Unit {0})
   pub window : Window
   pub edges : List ℕ
   pub escapes : List ℕ
 
-abbrev pub received : Answer (Unit {0}) → Window → List ℕ → List ℕ → Received
-received a w edges escapes = record { answer = a; window = w; edges = edges; escapes = escapes }
+abbrev pub roundReturned : Answer (Unit {0}) → Window → List ℕ → List ℕ → RoundReturned
+roundReturned a w edges escapes = record { answer = a; window = w; edges = edges; escapes = escapes }
 
 -- what is refused stays as it was
-abbrev pub roundLeaves : Table → Window → List ℕ → List ℕ → List ℕ → Received
+abbrev pub roundLeaves : Table → Window → List ℕ → List ℕ → List ℕ → RoundReturned
 roundLeaves T w bytes edges escapes =
     let a = roundCall T w bytes edges escapes in
-    received (passed a) (valueOr a windowOf w) (valueOr a edgesOf edges) (valueOr a escapesOf escapes)
+    roundReturned (withoutValue a) (valueOr a windowOf w) (valueOr a edgesOf edges) (valueOr a escapesOf escapes)
 
 -- MERGING: the answer says whether the stage is rest
 
-abbrev pub toldMerged : Merged → Answer Bool
-toldMerged merged.Busy = done false 0
-toldMerged merged.Rest = done true 0
-toldMerged (merged.Refused f) = turned f
+abbrev pub mergingAnswer : Merged → Answer Bool
+mergingAnswer merged.Busy = done false 0
+mergingAnswer merged.Rest = done true 0
+mergingAnswer (merged.Refused f) = turned f
 
 abbrev pub mergingLeaves : Table → Window → Answered Bool
 mergingLeaves T w =
@@ -47,16 +47,16 @@ pub data Ended : Type 0 where
   rest : ℕ → Ended
   spent : ℕ → Ended
 
-abbrev pub toldRun : Outcome → Answer Ended
-toldRun (outcome.Rest n) = done (rest n) 0
-toldRun (outcome.Spent n) = done (spent n) 0
-toldRun (outcome.Refused f) = turned f
+abbrev pub runAnswer : Outcome → Answer Ended
+runAnswer (outcome.Rest n) = done (rest n) 0
+runAnswer (outcome.Spent n) = done (spent n) 0
+runAnswer (outcome.Refused f) = turned f
 
-abbrev pub ended : Bool → ℕ → Ended
-ended true n = rest n
-ended false n = spent n
+abbrev pub endedBy : Bool → ℕ → Ended
+endedBy true n = rest n
+endedBy false n = spent n
 
 abbrev pub runLeaves : Table → Window → ℕ → Answered Ended
 runLeaves T w budget =
     let a = runCall T w budget in
-    given (andThen a (λ r n. done (ended (r .rest) (r .count)) n)) (valueOr a (λ r. r .window) w)
+    given (andThen a (λ r n. done (endedBy (r .rest) (r .count)) n)) (valueOr a (λ r. r .window) w)

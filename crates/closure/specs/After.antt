@@ -11,13 +11,13 @@ use lib.ListN.{getD, replicate}
 use Rattle.shape.specs.Choice.{if, if-true, if-false}
 use Rattle.shape.specs.Sizes.{nodesOf}
 use Rattle.shape.specs.Nodes.{numberOf, placeAt}
-use Rattle.shape.specs.Steps.{Table}
+use Rattle.steps.specs.Steps.{Table, falls}
 use Rattle.shape.specs.declared.Shape.{Shape}
 use Rattle.window.specs.Lists.{over}
 use Rattle.window.specs.LawsLists.{over-at}
-use Rattle.window.specs.Window.{alone, unused, beyond, falls, namer, size, sheet, at, place, detector, bottom, to}
+use Rattle.window.specs.Window.{alone, unused, beyond, namer, size, sheet, at, place, detector, bottom, to}
 use Rattle.window.specs.Fresh.{freshWindow}
-use Rattle.window.specs.Round.{sunk, received, fallenNode, atTop, fallenSlot, rounded}
+use Rattle.window.specs.Round.{sunk, topNode, fallenNode, atTop, fallenSlot, rounded}
 use Rattle.window.specs.Grow.{gains, cut, grownSlot, grownNode, grown}
 use Rattle.window.specs.Merging.{flipped, seen, stepAt, flippedSlot, merged}
 use Rattle.window.specs.declared.Window.{Window}
@@ -47,7 +47,7 @@ module _ (T : Table) (w : Window) (g : ℕ) (l : g < size w) where
     rounded-at = over-at (fallenNode w bytes) (w .nodes) (size w) g beyond l
 
     -- in the new top sheet
-    pub top-at : g < sheet w → at (rounded T w bytes) g ≡ received (w .shape .height) (w .shape .distance) bytes (place w g)
+    pub top-at : g < sheet w → at (rounded T w bytes) g ≡ topNode (w .shape .height) (w .shape .distance) bytes (place w g)
     unfolding fallenNode
     top-at m = rounded-at ∙ if-true (ltb g (sheet w)) _ _ (lt-ltb _ _ m)
 

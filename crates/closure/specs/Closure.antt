@@ -6,7 +6,7 @@ use mathlib.Core.List.{List}
 use borrow.Author.Tests.{not-true}
 use Rattle.refusal.specs.Answer.{done}
 use Rattle.shape.specs.Sizes.{inRange}
-use Rattle.shape.specs.Steps.{Table, base}
+use Rattle.steps.specs.Steps.{Table, base}
 use Rattle.shape.specs.declared.Shape.{Shape}
 use Rattle.window.specs.Window.{isRest, isToGrow, isMerging}
 use Rattle.window.specs.Formed.{wellFormed}
@@ -25,7 +25,7 @@ use Rattle.closure.specs.Round.{round, round-sized}
 use Rattle.closure.specs.Grow.{grow, grow-sized}
 use Rattle.closure.specs.Merging.{merging, merging-sized}
 use Rattle.closure.specs.Run.{run-keeps}
-use Rattle.closure.specs.Done.{started, staged, received}
+use Rattle.closure.specs.Done.{started, staged, accepted}
 
 -- well-formed, with arrays of their lengths
 pub record Kept (T : Table) (w : Window) : Type 0 where
@@ -68,7 +68,7 @@ module _ (T : Table) (S : Suited T) where
   module _ (w : Window) (s : Sized w) where
     round-done : (bytes edges escapes : List ℕ) (v : Round) (n : ℕ) → roundCall T w bytes edges escapes ≡ done v n → Kept T (v .window)
     round-done bytes edges escapes v n e =
-        let x = received T w bytes edges escapes v n e in
+        let x = accepted T w bytes edges escapes v n e in
         subst (λ (r : Round). Kept T (r .window)) (x .value) (kept-round T S w (record { formed = x .formed; sized = s }) bytes (x .staged))
 
     grow-done : (v : Window) (n : ℕ) → growCall T w ≡ done v n → Kept T v

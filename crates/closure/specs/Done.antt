@@ -11,21 +11,21 @@ use Rattle.refusal.specs.Tests.{tests-done}
 use Rattle.list.specs.Sheet.{areBits}
 use Rattle.shape.specs.Ranges.{both}
 use Rattle.shape.specs.Sizes.{heightOk, distanceOk, inRange, shapeOf, detectorsOf, layerEdgesOf}
-use Rattle.shape.specs.Steps.{Table}
+use Rattle.steps.specs.Steps.{Table}
 use Rattle.shape.specs.declared.Shape.{Shape}
 use Rattle.window.specs.Window.{isRest}
 use Rattle.window.specs.Formed.{wellFormed}
 use Rattle.window.specs.Fresh.{freshWindow}
-use Rattle.window.specs.Round.{rounded, committed, escaped}
+use Rattle.window.specs.Round.{rounded, committedEdges, escapedDefects}
 use Rattle.window.specs.Calls.{leaves, Round, stateTests, freshCall, roundCall}
 use Rattle.window.specs.declared.Window.{Window}
 
 -- done or refused: what a call leaves of a window
-pub left : {A : Type 0} (P : Window → Type 0) (a : Answer A) (of : A → Window) (w : Window) → P w → ((v : A) (n : ℕ) → a ≡ done v n → P (of v)) → P (leaves a of w .window)
-left P (done v n) of w k e = e v n refl
-left P ended of w k e = k
-left P (refused n) of w k e = k
-left P (refusedAt n at) of w k e = k
+pub leaves-keeps : {A : Type 0} (P : Window → Type 0) (a : Answer A) (of : A → Window) (w : Window) → P w → ((v : A) (n : ℕ) → a ≡ done v n → P (of v)) → P (leaves a of w .window)
+leaves-keeps P (done v n) of w k e = e v n refl
+leaves-keeps P ended of w k e = k
+leaves-keeps P (refused n) of w k e = k
+leaves-keeps P (refusedAt n at) of w k e = k
 
 -- FRESH
 
@@ -58,15 +58,15 @@ staged T w stage a v n e =
 
 -- ROUND
 
-pub record Received (T : Table) (w : Window) (bytes : List ℕ) (r : Round) : Type 0 where
+pub record Accepted (T : Table) (w : Window) (bytes : List ℕ) (r : Round) : Type 0 where
   pub formed : wellFormed T w ≡ true
   pub staged : isRest (w .stage) ≡ true
   pub bits : areBits bytes ≡ true
-  pub value : record { window = rounded T w bytes; edges = committed T w; escapes = escaped w } ≡ r
+  pub value : record { window = rounded T w bytes; edges = committedEdges T w; escapes = escapedDefects w } ≡ r
 
-pub received : (T : Table) (w : Window) (bytes edges escapes : List ℕ) (r : Round) (n : ℕ) → roundCall T w bytes edges escapes ≡ done r n → Received T w bytes r
+pub accepted : (T : Table) (w : Window) (bytes edges escapes : List ℕ) (r : Round) (n : ℕ) → roundCall T w bytes edges escapes ≡ done r n → Accepted T w bytes r
 unfolding roundCall
-received T w bytes edges escapes r n e =
+accepted T w bytes edges escapes r n e =
     let a = took (wellFormed T w) _ (refused 21) r n refl e in
     let b = took (isRest (w .stage)) _ (refused 22) r n refl (a .1) in
     let c = took (ltb (w .next) 4294967295) _ (refused 23) r n refl (b .1) in
@@ -74,4 +74,4 @@ received T w bytes edges escapes r n e =
     let f = took (eqb (length edges) (layerEdgesOf (w .shape .height) (w .shape .distance))) _ (refused 5) r n refl (d .1) in
     let g = took (eqb (length escapes) (detectorsOf (w .shape .height) (w .shape .distance))) _ (refused 6) r n refl (f .1) in
     let i = took (areBits bytes) _ (refused 4) r n refl (g .1) in
-    record { formed = a .0; staged = b .0; bits = i .0; value = tests-done [] (record { window = rounded T w bytes; edges = committed T w; escapes = escaped w }) r 0 n (i .1) }
+    record { formed = a .0; staged = b .0; bits = i .0; value = tests-done [] (record { window = rounded T w bytes; edges = committedEdges T w; escapes = escapedDefects w }) r 0 n (i .1) }

@@ -12,13 +12,13 @@ use Rattle.shape.specs.Sizes.{sheetsOf, boundary, nodesIn, nodesOf}
 use Rattle.shape.specs.Nodes.{indexOf, numberOf, placeAt}
 use Rattle.shape.specs.LawsIndex.{index-lt, index-inside}
 use Rattle.shape.specs.LawsNumber.{numbered, number-lt}
-use Rattle.shape.specs.Steps.{Table, step}
-use Rattle.shape.specs.Joins.{Joins}
+use Rattle.steps.specs.Steps.{Table, step, falls}
+use Rattle.steps.specs.Joins.{Joins}
 use Rattle.shape.specs.declared.Place.{Place}
 use Rattle.shape.specs.Counting.{Inside}
 use Rattle.window.specs.Lists.{every, all}
 use Rattle.window.specs.LawsLists.{every-at, every-by}
-use Rattle.window.specs.Window.{isToGrow, falls, namer, reach, size, at, place, to}
+use Rattle.window.specs.Window.{isToGrow, namer, reach, size, at, place, to}
 use Rattle.window.specs.Formed.{markFits, pointerFits, defectFits, nodeFits, nodeFitsAt, isEmpty, slotFitsAt, unusedNode, wellFormed}
 use Rattle.window.specs.declared.Stage.{Stage}
 use Rattle.window.specs.declared.Node.{Node}

@@ -8,7 +8,7 @@ use lib.ListN.{replicate, length-replicate}
 use Rattle.shape.specs.Sizes.{boundary, inRange, nodesOf}
 use Rattle.shape.specs.Ranges.{Ranged, ranged}
 use Rattle.shape.specs.Nodes.{numberOf, placeAt}
-use Rattle.shape.specs.Steps.{Table}
+use Rattle.steps.specs.Steps.{Table}
 use Rattle.shape.specs.declared.Shape.{Shape}
 use Rattle.window.specs.LawsLists.{length-over}
 use Rattle.window.specs.Window.{alone, unused}

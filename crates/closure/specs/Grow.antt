@@ -9,7 +9,7 @@ use lib.ListN.{getD}
 use Rattle.refusal.specs.Laws.{undone}
 use Rattle.shape.specs.Choice.{if-false, tell}
 use Rattle.shape.specs.Ranges.{both}
-use Rattle.shape.specs.Steps.{Table}
+use Rattle.steps.specs.Steps.{Table}
 use Rattle.window.specs.Lists.{bit}
 use Rattle.window.specs.Window.{namer, size, at, place, to}
 use Rattle.window.specs.Grow.{gains, grownSlot, grownNode, grown}

@@ -14,11 +14,11 @@ use Rattle.shape.specs.Nodes.{indexOf, placeAt}
 use Rattle.shape.specs.Counting.{Inside}
 use Rattle.shape.specs.Totals.{total}
 use Rattle.shape.specs.LawsIndex.{index-place, place-index, index-inside}
-use Rattle.shape.specs.Steps.{Table, step, goes, across, still, alongRow, bothDetectors}
-use Rattle.shape.specs.Joins.{Joins}
-use Rattle.shape.specs.Proper.{Proper, points}
+use Rattle.steps.specs.Steps.{Table, step, goes, across, still, alongRow, bothDetectors}
+use Rattle.steps.specs.Joins.{Joins}
+use Rattle.steps.specs.Proper.{Proper, points}
 use Rattle.shape.specs.declared.Place.{Place}
-use Rattle.shape.specs.declared.Step.{Step}
+use Rattle.steps.specs.declared.Step.{Step}
 use Rattle.window.specs.Window.{size, sheet, present, place}
 use Rattle.window.specs.Round.{loweredNumber}
 use Rattle.window.specs.declared.Stage.the-variants.{ToGrow}

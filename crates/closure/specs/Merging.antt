@@ -12,7 +12,7 @@ use Rattle.shape.specs.Choice.{if, if-false, tell}
 use Rattle.shape.specs.Ranges.{halves}
 use Rattle.shape.specs.Sizes.{sheetsOf, boundary, nodesIn}
 use Rattle.shape.specs.Nodes.{numberOf}
-use Rattle.shape.specs.Steps.{Table}
+use Rattle.steps.specs.Steps.{Table}
 use Rattle.window.specs.Lists.{byPlace, any, xor}
 use Rattle.window.specs.Window.{isRest, isMerging, namer, size, at, place, detector, to}
 use Rattle.window.specs.Merging.{syncedDefect, flipped, floods, stepped, seen, stepAt, flippedSlot, merged}

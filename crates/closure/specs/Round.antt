@@ -9,10 +9,10 @@ use borrow.Author.Tests.{ltb-true, lt-ltb, eq-eqb}
 use Rattle.refusal.specs.Laws.{undone}
 use Rattle.shape.specs.Choice.{tell, order}
 use Rattle.shape.specs.Sizes.{sheetsOf, boundary, nodesIn}
-use Rattle.shape.specs.Steps.{Table, step}
+use Rattle.steps.specs.Steps.{Table, step}
 use Rattle.window.specs.Lists.{over}
 use Rattle.window.specs.Window.{isRest, namer, size, sheet, at, place, to}
-use Rattle.window.specs.Round.{lowered, sunk, received, fallenNode, atTop, fallenSlot, rounded}
+use Rattle.window.specs.Round.{lowered, sunk, topNode, fallenNode, atTop, fallenSlot, rounded}
 use Rattle.window.specs.Formed.{markFits, isEmpty, unusedNode, wellFormed}
 use Rattle.window.specs.declared.Mark.{Mark}
 use Rattle.window.specs.declared.Mark.the-variants.{Reset, Root}
@@ -93,7 +93,7 @@ module _ (T : Table) (S : Suited T) (w : Window) (bytes : List ℕ) (f : Facts T
         }
 
   node-fits : (g : ℕ) → g < size w → Fits T ToGrow h d (place w g) (at (rounded T w bytes) g)
-  unfolding received
+  unfolding topNode
   node-fits g l =
       ⊎-elim (λ m. rw (top-at T w g l bytes m) (alone-fits T ToGrow h d (f .ranged) g l _ (received-fits (boundary d (place w g .column)) _)))
       (λ m. rw (sunk-at T w g l bytes (above g l m) (above-is g l m)) (sunk-fits g l m))

@@ -5,7 +5,7 @@ use mathlib.Core.Bool.{true, false}
 use mathlib.Core.Logic.{⊎-elim}
 use Rattle.refusal.specs.Laws.{undone}
 use Rattle.shape.specs.Choice.{if, if-true, if-false, tell}
-use Rattle.shape.specs.Steps.{Table}
+use Rattle.steps.specs.Steps.{Table}
 use Rattle.window.specs.Window.{isRest, isToGrow, isMerging}
 use Rattle.window.specs.Formed.{wellFormed}
 use Rattle.window.specs.Grow.{grown}

@@ -32,10 +32,10 @@ module _ (f : ℕ → Seen) (u : Bool) where
   abbrev pub Passes : ℕ → ℕ → ℕ → Type 0
   Passes i n m = (j : ℕ) → i ≤ j → j < i + n → f j .grown ≡ true → Above u m (f j .mark)
 
-  pub data Scanned (i n p : ℕ) (b : Bool) (m : ℕ) : Flooded → Type 0 where
-    passed : Passes i n m → Scanned i n p b m (flooded u p (Root m) b)
-    lowered : {a j : ℕ} → a < m → j < i + n → f j .grown ≡ true → f j .mark ≡ Root a → Passes i n a → Scanned i n p b m (flooded u (j + 1) (Root a) true)
-    stopped : u ≡ false → Scanned i n p b m (flooded u 0 Reset true)
+  pub data ScanOutcome (i n p : ℕ) (b : Bool) (m : ℕ) : Flooded → Type 0 where
+    passed : Passes i n m → ScanOutcome i n p b m (flooded u p (Root m) b)
+    lowered : {a j : ℕ} → a < m → j < i + n → f j .grown ≡ true → f j .mark ≡ Root a → Passes i n a → ScanOutcome i n p b m (flooded u (j + 1) (Root a) true)
+    stopped : u ≡ false → ScanOutcome i n p b m (flooded u 0 Reset true)
 
   module _ (i n : ℕ) where
     -- one neighbour more, before the others
@@ -47,22 +47,22 @@ module _ (f : ℕ → Seen) (u : Bool) where
         go (no q) = h j (omega arith) (omega arith) e
 
     -- it is passed by
-    pass : (p : ℕ) (b : Bool) (m : ℕ) (r : Flooded) → (f i .grown ≡ true → Above u m (f i .mark)) → Scanned (suc i) n p b m r → Scanned i (suc n) p b m r
+    pass : (p : ℕ) (b : Bool) (m : ℕ) (r : Flooded) → (f i .grown ≡ true → Above u m (f i .mark)) → ScanOutcome (suc i) n p b m r → ScanOutcome i (suc n) p b m r
     pass p b m r t (passed h) = passed (more m t h)
     pass p b m r t (lowered {a = a} {j = j} l hi e s h) = lowered {a = a} {j = j} l (omega arith) e s (more a (λ x. lower (omega arith) (t x)) h)
     pass p b m r t (stopped e) = stopped e
 
     -- its mark a is taken
-    take : (p : ℕ) (b : Bool) (m a : ℕ) (r : Flooded) → a < m → f i .grown ≡ true → f i .mark ≡ Root a → Scanned (suc i) n (i + 1) true a r → Scanned i (suc n) p b m r
+    take : (p : ℕ) (b : Bool) (m a : ℕ) (r : Flooded) → a < m → f i .grown ≡ true → f i .mark ≡ Root a → ScanOutcome (suc i) n (i + 1) true a r → ScanOutcome i (suc n) p b m r
     take p b m a r l e s (passed h) = lowered {j = i} l (omega arith) e s (more a (λ x. higher s (omega arith)) h)
     take p b m a r l e s (lowered {a = c} {j = j} k hi e' s' h) = lowered {a = c} {j = j} (omega arith) (omega arith) e' s' (more c (λ x. higher s (omega arith)) h)
     take p b m a r l e s (stopped z) = stopped z
 
     -- whichever it is
     one : (grown : Bool) (mark : Mark) (x : Bool) (p : ℕ) (b : Bool) (m : ℕ) (past : Flooded) (on : ℕ → Flooded) → f i .grown ≡ grown → f i .mark ≡ mark → u ≡ x
-        → Scanned (suc i) n p b m past
-        → ((a : ℕ) → Scanned (suc i) n (i + 1) true a (on a))
-        → Scanned i (suc n) p b m (if grown (onMark mark (if x past (flooded x 0 Reset true)) (λ v. if (ltb v m) (on v) past)) past)
+        → ScanOutcome (suc i) n p b m past
+        → ((a : ℕ) → ScanOutcome (suc i) n (i + 1) true a (on a))
+        → ScanOutcome i (suc n) p b m (if grown (onMark mark (if x past (flooded x 0 Reset true)) (λ v. if (ltb v m) (on v) past)) past)
     one false mark x p b m past on eg em eu s t = pass p b m past (λ e. absurd (undone (sym e ∙ eg))) s
     one true Reset true p b m past on eg em eu s t = pass p b m past (λ e. idle em eu) s
     one true Reset false p b m past on eg em eu s t = rw (← eu) (stopped eu)
@@ -72,12 +72,12 @@ module _ (f : ℕ → Seen) (u : Bool) where
         (λ e. rw (if-false (ltb v m) (on v) past e) (pass p b m past (λ y. higher em (ltb-false v m e)) s))
         (tell (ltb v m))
 
-  pub scanned : (n i p : ℕ) (b : Bool) (m : ℕ) → Scanned i n p b m (scan (from i n f) i u p b m)
+  pub scanned : (n i p : ℕ) (b : Bool) (m : ℕ) → ScanOutcome i n p b m (scan (from i n f) i u p b m)
   unfolding scan from
   scanned zero i p b m = passed (λ j lo hi e. absurd (omega arith))
   scanned (suc n) i p b m =
-      let later : (p : ℕ) (b : Bool) (m : ℕ) → Scanned (suc i) n p b m (scan (from (suc i) n f) (i + 1) u p b m)
-      = λ p b m. subst (λ (k : ℕ). Scanned (suc i) n p b m (scan (from (suc i) n f) k u p b m)) (sym (add-one i)) (scanned n (suc i) p b m) in
+      let later : (p : ℕ) (b : Bool) (m : ℕ) → ScanOutcome (suc i) n p b m (scan (from (suc i) n f) (i + 1) u p b m)
+      = λ p b m. subst (λ (k : ℕ). ScanOutcome (suc i) n p b m (scan (from (suc i) n f) k u p b m)) (sym (add-one i)) (scanned n (suc i) p b m) in
       one i n (f i .grown) (f i .mark) u p b m _ _ refl refl refl (later p b m) (λ a. later (i + 1) true a)
 
 -- WHAT FLOODING MAKES OF A NODE: its pointer is as P says; its mark is a number below N, or reset and the node busy
@@ -92,7 +92,7 @@ module _ (P : ℕ → Type 0) (N : ℕ) where
 
   -- the pointer is the one it had, C, or along an edge of growth 2
   module _ (centre : P 0) (f : ℕ → Seen) (along : (k : ℕ) → f k .grown ≡ true → P (k + 1)) (marks : (k v : ℕ) → f k .grown ≡ true → f k .mark ≡ Root v → v < N) where
-    scanned-good : (u : Bool) (i n p : ℕ) (b : Bool) (m : ℕ) (r : Flooded) → P p → m < N → Scanned f u i n p b m r → Good P N r
+    scanned-good : (u : Bool) (i n p : ℕ) (b : Bool) (m : ℕ) (r : Flooded) → P p → m < N → ScanOutcome f u i n p b m r → Good P N r
     scanned-good u i n p b m r a l (passed h) = numbered u p m b a l
     scanned-good u i n p b m r a l (lowered {a = v} {j = j} k hi e s h) = numbered u (j + 1) v true (along j e) (marks j v e s)
     scanned-good u i n p b m r a l (stopped e) = record { pointer = centre; reset = λ e. refl; marked = λ n e. absurd (reset-not n e) }

@@ -1,8 +1,8 @@
 -- The tables of steps that the laws hold for. Assumes nothing.
 use Prim.Native.Nat.{ℕ, zero, suc, _≤_, _<_}
 use native.Mathlib.Omega.{arith}
-use Rattle.shape.specs.Steps.{Table, base, step}
-use Rattle.shape.specs.Proper.{Proper, proper-base}
+use Rattle.steps.specs.Steps.{Table, base, step}
+use Rattle.steps.specs.Proper.{Proper, proper-base}
 use Rattle.window.specs.Window.{naming, namer}
 
 -- Every kind of edge has a direction in which it is named, and that does not go down: what falls one sheet with the end that names it keeps its edge

@@ -1,61 +1,45 @@
--- What is seen of an answer, by its case; and what a height and a distance name. Assumes nothing.
+-- From what the parts of a call ensure to what its caller sees. Assumes nothing.
 use Prim.Native.Nat.{ℕ}
-use mathlib.Core.Path.{_≡_, refl, sym, _∙_, ap}
-use mathlib.Core.List.{[], _∷_}
-use lib.Dec.{leb}
-use Rattle.refusal.specs.Answer.{Answer, done, ended, Code, codeOf, byCode, turned, status, nextOr, valueOr}
-use Rattle.refusal.specs.Laws.{each, turned-not, turned-next, value-not}
-use Rattle.refusal.specs.Tests.{Turned, tests-turned, tests-done, turned-first}
-use Rattle.refusal.specs.declared.Refusal.{Refusal}
-use Rattle.shape.specs.Sizes.{shapeTests, shapeOf, told}
+use mathlib.Core.Path.{_≡_, _∙_, ap, ap₂}
+use Rattle.refusal.specs.Answer.{Answer, nextOr}
+use Rattle.refusal.specs.Writing.{Buffered}
 use Rattle.shape.specs.declared.Shape.{Shape}
-use Rattle.shape.specs.declared.Shaped.{Shaped}
-use Rattle.shape.specs.declared.Shaped.the-variants as shaped
-use Rattle.record.specs.Calls.{placeTests}
-use Rattle.session.specs.Decoding.{turnedBack}
-use Rattle.exports.specs.Seen.{seen, shown, shapeBy, codeNumber, lineStatus}
+use Rattle.record.specs.Calls.{ResultBuffered}
+use Rattle.decoding.specs.Answers.{DecodeReturned as Decoding}
+use Rattle.reply.specs.Reply.{Reply, replied, ValueOut, valueBy, HeaderOut, headerBy, countBy}
+use Rattle.exports.specs.Calls.{bufferOut, bufferBy, taken, roundOut, roundBy, resultOut, resultBy, decodeOut, decodeBy}
 
-module _ {A : Type 0} (a : Answer A) (place : ℕ) where
-  pub seen-done : (v : A) (next : ℕ) → a ≡ done v next → seen 0 next ≡ shown a place
-  seen-done v next e = sym (ap (λ (x : Answer A). shown x place) e)
+-- WHAT A CALL LEAVES, from an answer with its buffers and from the reply to it
 
-  pub seen-ended : a ≡ ended → seen 255 place ≡ shown a place
-  seen-ended e = sym (ap (λ (x : Answer A). shown x place) e)
+module _ {S R Out : Type 0} (make : R → S → Out) (to : S → R) where
+  parts : {x l : S} {r : R} → x ≡ l → r ≡ to x → make r x ≡ make (to l) l
+  parts {x} e q = ap (λ (r : R). make r x) q ∙ ap (λ (l : S). make (to l) l) e
 
-  pub seen-turned : (f : Refusal) → a ≡ turned f → shown (turned {A = Unit {0}} f) place ≡ shown a place
-  seen-turned f e =
-      each (λ (k : Code). shown (byCode {A = Unit {0}} k) place ≡ shown (byCode {A = A} k) place) (λ n. refl) (λ n at. refl) f
-      ∙ sym (ap (λ (x : Answer A). shown x place) e)
+  taken-parts : (next : S → ℕ) {x l : S} {r : R} {n : ℕ} → x ≡ l → r ≡ to x → n ≡ next x → taken (make r x) n ≡ taken (make (to l) l) (next l)
+  taken-parts next {x} {l} {r} e q m = ap (λ (k : ℕ). taken (make r x) k) m ∙ ap₂ (λ (o : Out) (k : ℕ). taken o k) (parts e q) (ap next e)
 
-module _ {A : Type 0} (a : Answer A) (of : A → ℕ) (other : ℕ) where
-  pub value-done : (v : A) (next : ℕ) → a ≡ done v next → of v ≡ valueOr a of other
-  value-done v next e = sym (ap (λ (x : Answer A). valueOr x of other) e)
+pub buffer-left : (place : ℕ) {x l : Buffered} {r : Reply} → x ≡ l → r ≡ replied (x .answer) place → bufferOut r (x .buffer) ≡ bufferBy l place
+buffer-left place e q = parts (λ (r : Reply) (l : Buffered). bufferOut r (l .buffer)) (λ (l : Buffered). replied (l .answer) place) e q
 
-  pub value-ended : a ≡ ended → other ≡ valueOr a of other
-  value-ended e = sym (ap (λ (x : Answer A). valueOr x of other) e)
+pub decode-left : (place : ℕ) {x l : Decoding} {v : ValueOut} → x ≡ l → v ≡ countBy (x .line) (x .count) place
+    → decodeOut (v .reply) (x .buffer) (v .value) ≡ decodeBy l place
+decode-left place =
+    parts (λ (v : ValueOut) (l : Decoding). decodeOut (v .reply) (l .buffer) (v .value)) (λ (l : Decoding). countBy (l .line) (l .count) place)
 
-  pub value-turned : (f : Refusal) → a ≡ turned f → other ≡ valueOr a of other
-  value-turned f e = sym (ap (λ (x : Answer A). valueOr x of other) e ∙ value-not (turned f) of other (turned-not A f))
+module _ (at place : ℕ) {n : ℕ} where
+  pub header-left : (height distance : ℕ) {x l : Answer Shape} {h : HeaderOut} → x ≡ l → h ≡ headerBy x height distance place → n ≡ nextOr x at
+      → taken h n ≡ taken (headerBy l height distance place) (nextOr l at)
+  header-left height distance =
+      taken-parts (λ (h : HeaderOut) (l : Answer Shape). h) (λ (l : Answer Shape). headerBy l height distance place) (λ (l : Answer Shape). nextOr l at)
 
--- a refusal moves nothing
-pub next-turned : {A : Type 0} (a : Answer A) (other : ℕ) (f : Refusal) → a ≡ turned f → other ≡ nextOr a other
-next-turned {A} a other f e = sym (ap (λ (x : Answer A). nextOr x other) e ∙ turned-next A f other)
+  pub round-left : {x l : Buffered} {r : Reply} → x ≡ l → r ≡ replied (x .answer) place → n ≡ nextOr (x .answer) at
+      → taken (roundOut r (x .buffer)) n ≡ taken (roundBy l place) (nextOr (l .answer) at)
+  round-left = taken-parts (λ (r : Reply) (l : Buffered). roundOut r (l .buffer)) (λ (l : Buffered). replied (l .answer) place) (λ (l : Buffered). nextOr (l .answer) at)
 
-module _ (h d : ℕ) (r : Shaped) (e : told r ≡ shapeOf h d) where
-  pub shape-turned : (f : Refusal) → r ≡ shaped.Refused f → (len at : ℕ) → Turned (placeTests (shapeBy h d) len at) f
-  shape-turned f k len at =
-      turned-first (shapeTests h d) ((leb at len, 10) ∷ []) f (tests-turned (shapeTests h d) (shapeBy h d) 0 f (sym e ∙ ap told k))
-
-  pub shape-named : (sh : Shape) → r ≡ shaped.Shape sh → sh ≡ shapeBy h d
-  shape-named sh k = sym (tests-done (shapeTests h d) (shapeBy h d) sh 0 0 (sym e ∙ ap told k))
-
-  -- a size, where the shape is one and where it is refused
-  pub sized : (of : Shape → ℕ) (n : ℕ) (sh : Shape) → r ≡ shaped.Shape sh → n ≡ of sh → n ≡ valueOr (shapeOf h d) of 0
-  sized of n sh k z = z ∙ value-done (shapeOf h d) of 0 sh 0 (sym e ∙ ap told k)
-
-  pub unsized : (of : Shape → ℕ) (f : Refusal) → r ≡ shaped.Refused f → 0 ≡ valueOr (shapeOf h d) of 0
-  unsized of f k = value-turned (shapeOf h d) of 0 f (sym e ∙ ap told k)
-
--- a refusal's number
-pub code-status : (f : Refusal) → status (turned {A = Unit {0}} f) ≡ lineStatus (turnedBack (codeOf f))
-code-status f = each (λ (k : Code). status (byCode {A = Unit {0}} k) ≡ codeNumber k) (λ n. refl) (λ n at. refl) f
+  pub result-left : (steps : ℕ) {x l : ResultBuffered} {v : ValueOut} → x ≡ l → v ≡ valueBy (x .answer) steps place → n ≡ nextOr (x .answer) at
+      → taken (resultOut (v .reply) (x .edges) (x .escapes) (v .value)) n ≡ taken (resultBy l steps place) (nextOr (l .answer) at)
+  result-left steps =
+      taken-parts
+      (λ (v : ValueOut) (l : ResultBuffered). resultOut (v .reply) (l .edges) (l .escapes) (v .value))
+      (λ (l : ResultBuffered). valueBy (l .answer) steps place)
+      (λ (l : ResultBuffered). nextOr (l .answer) at)

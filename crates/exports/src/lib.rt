@@ -1,49 +1,13 @@
-// Streams and decoding for programs in C: numbers, byte slices and lent numbers only. Each call answers 0 where it is done, 255 where no bytes
-// are left, and else the refusal's number; what that leaves alone stays as it was.
+// Streams and decoding for programs in C: numbers, byte slices and lent numbers only. Each call ensures one equation, between a record of what
+// its caller sees, by the header's names, and what `specs/Calls.antt` makes of the arguments. `crates/reply` has the status and the place,
+// `crates/named` the shape that a height and a distance name.
+//
+// A reader or writer returns 0 where it is done, 255 where no bytes are left, and else the refusal's number; unless it returns 0, it leaves
+// every buffer, value and lent offset as it was. `place` takes the offset behind the record, or that of the number's first byte with 7, 8 and 9,
+// and is left alone otherwise.
 ghost use mathlib.Core.Path.{_≡_};
-ghost use Rattle.refusal.specs.Answer.{turned, nextOr, valueOr, itself};
-ghost use Rattle.number.specs.Number.{numberAt, toldTo, writeNumber};
-ghost use Rattle.list.specs.Sheet.{readList, writeList};
-ghost use Rattle.shape.specs.Sizes.{shapeOf};
-ghost use Rattle.record.specs.Records.{headerAt};
-ghost use Rattle.stream.specs.Streams.{inputOf};
-ghost use Rattle.stream.specs.Scanned.{scanned};
-ghost use Rattle.record.specs.Calls.{writeHeader, readRound, writeRound, readResult, writeResult, asResult};
-ghost use Rattle.shape.specs.Steps.{base};
-ghost use Rattle.session.specs.Answers.{toldLine, decodeLeaves};
-ghost use Rattle.exports.specs.Seen.{seen, shown, shapeBy, heightOf, distanceOf, heightIn, distanceIn, roundsIn, nodesBy, detectorsBy, edgesBy, lineStatus};
-use list::Listed;
-use number::Read;
-use number::Wrote;
-use record::HeaderRead;
-use record::ResultRead;
-use record::RoundRead;
-use refusal::Refusal;
-use session::Ending;
-use shape::Shaped;
-use stream::InputRead;
-
-// A refusal's number; the place takes its offset, where it carries one.
-fn refuse(f: Refusal, place: &mut usize) -> u8
-    ensures { λ r. ⌜ seen r (now (place .exit)) ≡ shown (turned {A = Unit {0}} f) (now (place .entry)) ⌝ }
-{
-    let other = *place;
-    *place = refusal::place_or(f, other);
-    refusal::number(f)
-}
-
-// A writer's answer.
-fn wrote(w: Wrote, place: &mut usize) -> u8
-    ensures { λ r. ⌜ seen r (now (place .exit)) ≡ shown (toldTo w) (now (place .entry)) ⌝ }
-{
-    match w {
-        Wrote::To(next) => {
-            *place = next;
-            0
-        }
-        Wrote::Not(f) => refuse(f, place),
-    }
-}
+ghost use Rattle.reply.specs.Reply.{reply, valueOut, headerOut, scanOut};
+ghost use Rattle.exports.specs.Calls.{numberRead, bufferOut, numberWritten, listRead, listWritten, taken, headerRead, headerTaken, headerWritten, roundOut, roundRead, roundTaken, roundWritten, resultOut, resultRead, resultTaken, resultWritten, inputScanned, resultsScanned, decodeOut, streamDecoded, nodesBy, detectorsBy, edgesBy};
 
 #[no_mangle]
 pub extern "C" fn baizeridge_read_number(
@@ -52,17 +16,10 @@ pub extern "C" fn baizeridge_read_number(
     value: &mut u32,
     place: &mut usize,
 ) -> u8
-    ensures { λ r. ⌜ seen r (now (place .exit)) ≡ shown (numberAt (now (src .entry)) at) (now (place .entry)) ⌝ }
-    ensures { λ r. ⌜ now (value .exit) ≡ valueOr (numberAt (now (src .entry)) at) itself (now (value .entry)) ⌝ }
+    ensures { λ r. ⌜ valueOut (reply r (now (place .exit))) (now (value .exit)) ≡ numberRead (now (src .entry)) at (now (value .entry)) (now (place .entry)) ⌝ }
 {
-    match number::read_number(src, at) {
-        Read::Number(n, next) => {
-            *value = n;
-            *place = next;
-            0
-        }
-        Read::Refused(f) => refuse(f, place),
-    }
+    let n = number::read_number(src, at);
+    reply::number(n, value, place)
 }
 
 #[no_mangle]
@@ -72,11 +29,10 @@ pub extern "C" fn baizeridge_write_number(
     at: usize,
     place: &mut usize,
 ) -> u8
-    ensures { λ r. ⌜ seen r (now (place .exit)) ≡ shown (writeNumber n (now (out .entry)) at .answer) (now (place .entry)) ⌝ }
-    ensures { λ r. ⌜ now (out .exit) ≡ writeNumber n (now (out .entry)) at .buffer ⌝ }
+    ensures { λ r. ⌜ bufferOut (reply r (now (place .exit))) (now (out .exit)) ≡ numberWritten n (now (out .entry)) at (now (place .entry)) ⌝ }
 {
     let w = number::write_number(n, out, at);
-    wrote(w, place)
+    reply::wrote(w, place)
 }
 
 #[no_mangle]
@@ -86,16 +42,10 @@ pub extern "C" fn baizeridge_read_list(
     out: &mut [u8],
     place: &mut usize,
 ) -> u8
-    ensures { λ r. ⌜ seen r (now (place .exit)) ≡ shown (readList (now (src .entry)) at (now (out .entry)) .answer) (now (place .entry)) ⌝ }
-    ensures { λ r. ⌜ now (out .exit) ≡ readList (now (src .entry)) at (now (out .entry)) .buffer ⌝ }
+    ensures { λ r. ⌜ bufferOut (reply r (now (place .exit))) (now (out .exit)) ≡ listRead (now (src .entry)) at (now (out .entry)) (now (place .entry)) ⌝ }
 {
-    match list::read_list(src, at, out) {
-        Listed::To(next) => {
-            *place = next;
-            0
-        }
-        Listed::Refused(f) => refuse(f, place),
-    }
+    let l = list::read_list(src, at, out);
+    reply::list(l, place)
 }
 
 #[no_mangle]
@@ -105,11 +55,10 @@ pub extern "C" fn baizeridge_write_list(
     at: usize,
     place: &mut usize,
 ) -> u8
-    ensures { λ r. ⌜ seen r (now (place .exit)) ≡ shown (writeList (now (entries .entry)) (now (out .entry)) at .answer) (now (place .entry)) ⌝ }
-    ensures { λ r. ⌜ now (out .exit) ≡ writeList (now (entries .entry)) (now (out .entry)) at .buffer ⌝ }
+    ensures { λ r. ⌜ bufferOut (reply r (now (place .exit))) (now (out .exit)) ≡ listWritten (now (entries .entry)) (now (out .entry)) at (now (place .entry)) ⌝ }
 {
-    let w = list::write_list(entries, out, at);
-    wrote(w, place)
+    let w = list_writer::write_list(entries, out, at);
+    reply::wrote(w, place)
 }
 
 // A reader `take_` moves the lent offset behind the record, and leaves it where none was read; `read_` is the same with an offset by value.
@@ -121,20 +70,10 @@ pub extern "C" fn baizeridge_take_header(
     distance: &mut u32,
     place: &mut usize,
 ) -> u8
-    ensures { λ r. ⌜ seen r (now (place .exit)) ≡ shown (headerAt (now (src .entry)) (now (at .entry))) (now (place .entry)) ⌝ }
-    ensures { λ r. ⌜ now (height .exit) ≡ valueOr (headerAt (now (src .entry)) (now (at .entry))) heightOf (now (height .entry)) ⌝ }
-    ensures { λ r. ⌜ now (distance .exit) ≡ valueOr (headerAt (now (src .entry)) (now (at .entry))) distanceOf (now (distance .entry)) ⌝ }
-    ensures { λ r. ⌜ now (at .exit) ≡ nextOr (headerAt (now (src .entry)) (now (at .entry))) (now (at .entry)) ⌝ }
+    ensures { λ r. ⌜ taken (headerOut (reply r (now (place .exit))) (now (height .exit)) (now (distance .exit))) (now (at .exit)) ≡ headerTaken (now (src .entry)) (now (at .entry)) (now (height .entry)) (now (distance .entry)) (now (place .entry)) ⌝ }
 {
-    match stream::take_header(src, at) {
-        HeaderRead::Shape(shape, next) => {
-            *height = shape.height as u32;
-            *distance = shape.distance as u32;
-            *place = next;
-            0
-        }
-        HeaderRead::Refused(f) => refuse(f, place),
-    }
+    let h = stream::take_header(src, at);
+    reply::header(h, height, distance, place)
 }
 
 #[no_mangle]
@@ -145,9 +84,7 @@ pub extern "C" fn baizeridge_read_header(
     distance: &mut u32,
     place: &mut usize,
 ) -> u8
-    ensures { λ r. ⌜ seen r (now (place .exit)) ≡ shown (headerAt (now (src .entry)) at) (now (place .entry)) ⌝ }
-    ensures { λ r. ⌜ now (height .exit) ≡ valueOr (headerAt (now (src .entry)) at) heightOf (now (height .entry)) ⌝ }
-    ensures { λ r. ⌜ now (distance .exit) ≡ valueOr (headerAt (now (src .entry)) at) distanceOf (now (distance .entry)) ⌝ }
+    ensures { λ r. ⌜ headerOut (reply r (now (place .exit))) (now (height .exit)) (now (distance .exit)) ≡ headerRead (now (src .entry)) at (now (height .entry)) (now (distance .entry)) (now (place .entry)) ⌝ }
 {
     let mut from = at;
     baizeridge_take_header(src, &mut from, height, distance, place)
@@ -161,16 +98,11 @@ pub extern "C" fn baizeridge_write_header(
     at: usize,
     place: &mut usize,
 ) -> u8
-    ensures { λ r. ⌜ seen r (now (place .exit)) ≡ shown (writeHeader (shapeBy height distance) (now (out .entry)) at .answer) (now (place .entry)) ⌝ }
-    ensures { λ r. ⌜ now (out .exit) ≡ writeHeader (shapeBy height distance) (now (out .entry)) at .buffer ⌝ }
+    ensures { λ r. ⌜ bufferOut (reply r (now (place .exit))) (now (out .exit)) ≡ headerWritten height distance (now (out .entry)) at (now (place .entry)) ⌝ }
 {
-    match shape::shape_of(height, distance) {
-        Shaped::Refused(f) => refuse(f, place),
-        Shaped::Shape(shape) => {
-            let w = record::write_header(shape, out, at);
-            wrote(w, place)
-        }
-    }
+    let shape = named::shape_by(height, distance);
+    let w = record::write_header(shape, out, at);
+    reply::wrote(w, place)
 }
 
 #[no_mangle]
@@ -182,21 +114,11 @@ pub extern "C" fn baizeridge_take_round(
     defects: &mut [u8],
     place: &mut usize,
 ) -> u8
-    ensures { λ r. ⌜ seen r (now (place .exit)) ≡ shown (readRound (shapeBy height distance) (now (src .entry)) (now (at .entry)) (now (defects .entry)) .answer) (now (place .entry)) ⌝ }
-    ensures { λ r. ⌜ now (defects .exit) ≡ readRound (shapeBy height distance) (now (src .entry)) (now (at .entry)) (now (defects .entry)) .buffer ⌝ }
-    ensures { λ r. ⌜ now (at .exit) ≡ nextOr (readRound (shapeBy height distance) (now (src .entry)) (now (at .entry)) (now (defects .entry)) .answer) (now (at .entry)) ⌝ }
+    ensures { λ r. ⌜ taken (roundOut (reply r (now (place .exit))) (now (defects .exit))) (now (at .exit)) ≡ roundTaken height distance (now (src .entry)) (now (at .entry)) (now (defects .entry)) (now (place .entry)) ⌝ }
 {
-    match shape::shape_of(height, distance) {
-        Shaped::Refused(f) => refuse(f, place),
-        Shaped::Shape(shape) => match stream::take_round(shape, src, at, defects) {
-            RoundRead::To(next) => {
-                *place = next;
-                0
-            }
-            RoundRead::End => 255,
-            RoundRead::Refused(f) => refuse(f, place),
-        },
-    }
+    let shape = named::shape_by(height, distance);
+    let d = stream::take_round(shape, src, at, defects);
+    reply::round(d, place)
 }
 
 #[no_mangle]
@@ -208,8 +130,7 @@ pub extern "C" fn baizeridge_read_round(
     defects: &mut [u8],
     place: &mut usize,
 ) -> u8
-    ensures { λ r. ⌜ seen r (now (place .exit)) ≡ shown (readRound (shapeBy height distance) (now (src .entry)) at (now (defects .entry)) .answer) (now (place .entry)) ⌝ }
-    ensures { λ r. ⌜ now (defects .exit) ≡ readRound (shapeBy height distance) (now (src .entry)) at (now (defects .entry)) .buffer ⌝ }
+    ensures { λ r. ⌜ roundOut (reply r (now (place .exit))) (now (defects .exit)) ≡ roundRead height distance (now (src .entry)) at (now (defects .entry)) (now (place .entry)) ⌝ }
 {
     let mut from = at;
     baizeridge_take_round(height, distance, src, &mut from, defects, place)
@@ -224,16 +145,11 @@ pub extern "C" fn baizeridge_write_round(
     at: usize,
     place: &mut usize,
 ) -> u8
-    ensures { λ r. ⌜ seen r (now (place .exit)) ≡ shown (writeRound (shapeBy height distance) (now (defects .entry)) (now (out .entry)) at .answer) (now (place .entry)) ⌝ }
-    ensures { λ r. ⌜ now (out .exit) ≡ writeRound (shapeBy height distance) (now (defects .entry)) (now (out .entry)) at .buffer ⌝ }
+    ensures { λ r. ⌜ bufferOut (reply r (now (place .exit))) (now (out .exit)) ≡ roundWritten height distance (now (defects .entry)) (now (out .entry)) at (now (place .entry)) ⌝ }
 {
-    match shape::shape_of(height, distance) {
-        Shaped::Refused(f) => refuse(f, place),
-        Shaped::Shape(shape) => {
-            let w = record::write_round(shape, defects, out, at);
-            wrote(w, place)
-        }
-    }
+    let shape = named::shape_by(height, distance);
+    let w = input::write_round(shape, defects, out, at);
+    reply::wrote(w, place)
 }
 
 #[no_mangle]
@@ -247,24 +163,11 @@ pub extern "C" fn baizeridge_take_result(
     steps: &mut u32,
     place: &mut usize,
 ) -> u8
-    ensures { λ r. ⌜ seen r (now (place .exit)) ≡ shown (readResult (shapeBy height distance) (now (src .entry)) (now (at .entry)) (now (edges .entry)) (now (escapes .entry)) .answer) (now (place .entry)) ⌝ }
-    ensures { λ r. ⌜ now (edges .exit) ≡ readResult (shapeBy height distance) (now (src .entry)) (now (at .entry)) (now (edges .entry)) (now (escapes .entry)) .edges ⌝ }
-    ensures { λ r. ⌜ now (escapes .exit) ≡ readResult (shapeBy height distance) (now (src .entry)) (now (at .entry)) (now (edges .entry)) (now (escapes .entry)) .escapes ⌝ }
-    ensures { λ r. ⌜ now (steps .exit) ≡ valueOr (readResult (shapeBy height distance) (now (src .entry)) (now (at .entry)) (now (edges .entry)) (now (escapes .entry)) .answer) itself (now (steps .entry)) ⌝ }
-    ensures { λ r. ⌜ now (at .exit) ≡ nextOr (readResult (shapeBy height distance) (now (src .entry)) (now (at .entry)) (now (edges .entry)) (now (escapes .entry)) .answer) (now (at .entry)) ⌝ }
+    ensures { λ r. ⌜ taken (resultOut (reply r (now (place .exit))) (now (edges .exit)) (now (escapes .exit)) (now (steps .exit))) (now (at .exit)) ≡ resultTaken height distance (now (src .entry)) (now (at .entry)) (now (edges .entry)) (now (escapes .entry)) (now (steps .entry)) (now (place .entry)) ⌝ }
 {
-    match shape::shape_of(height, distance) {
-        Shaped::Refused(f) => refuse(f, place),
-        Shaped::Shape(shape) => match stream::take_result(shape, src, at, edges, escapes) {
-            ResultRead::Steps(n, next) => {
-                *steps = n;
-                *place = next;
-                0
-            }
-            ResultRead::End => 255,
-            ResultRead::Refused(f) => refuse(f, place),
-        },
-    }
+    let shape = named::shape_by(height, distance);
+    let d = stream::take_result(shape, src, at, edges, escapes);
+    reply::result(d, steps, place)
 }
 
 #[no_mangle]
@@ -278,10 +181,7 @@ pub extern "C" fn baizeridge_read_result(
     steps: &mut u32,
     place: &mut usize,
 ) -> u8
-    ensures { λ r. ⌜ seen r (now (place .exit)) ≡ shown (readResult (shapeBy height distance) (now (src .entry)) at (now (edges .entry)) (now (escapes .entry)) .answer) (now (place .entry)) ⌝ }
-    ensures { λ r. ⌜ now (edges .exit) ≡ readResult (shapeBy height distance) (now (src .entry)) at (now (edges .entry)) (now (escapes .entry)) .edges ⌝ }
-    ensures { λ r. ⌜ now (escapes .exit) ≡ readResult (shapeBy height distance) (now (src .entry)) at (now (edges .entry)) (now (escapes .entry)) .escapes ⌝ }
-    ensures { λ r. ⌜ now (steps .exit) ≡ valueOr (readResult (shapeBy height distance) (now (src .entry)) at (now (edges .entry)) (now (escapes .entry)) .answer) itself (now (steps .entry)) ⌝ }
+    ensures { λ r. ⌜ resultOut (reply r (now (place .exit))) (now (edges .exit)) (now (escapes .exit)) (now (steps .exit)) ≡ resultRead height distance (now (src .entry)) at (now (edges .entry)) (now (escapes .entry)) (now (steps .entry)) (now (place .entry)) ⌝ }
 {
     let mut from = at;
     baizeridge_take_result(
@@ -307,19 +207,14 @@ pub extern "C" fn baizeridge_write_result(
     at: usize,
     place: &mut usize,
 ) -> u8
-    ensures { λ r. ⌜ seen r (now (place .exit)) ≡ shown (writeResult (shapeBy height distance) (asResult (now (edges .entry)) (now (escapes .entry)) steps) (now (out .entry)) at .answer) (now (place .entry)) ⌝ }
-    ensures { λ r. ⌜ now (out .exit) ≡ writeResult (shapeBy height distance) (asResult (now (edges .entry)) (now (escapes .entry)) steps) (now (out .entry)) at .buffer ⌝ }
+    ensures { λ r. ⌜ bufferOut (reply r (now (place .exit))) (now (out .exit)) ≡ resultWritten height distance (now (edges .entry)) (now (escapes .entry)) steps (now (out .entry)) at (now (place .entry)) ⌝ }
 {
-    match shape::shape_of(height, distance) {
-        Shaped::Refused(f) => refuse(f, place),
-        Shaped::Shape(shape) => {
-            let w = record::write_result(shape, edges, escapes, steps, out, at);
-            wrote(w, place)
-        }
-    }
+    let shape = named::shape_by(height, distance);
+    let w = result_writer::write_result(shape, edges, escapes, steps, out, at);
+    reply::wrote(w, place)
 }
 
-// Reads a whole input stream, and stores nothing. The place takes its length.
+// Reads a whole input stream. The place takes its length.
 #[no_mangle]
 pub extern "C" fn baizeridge_scan_input(
     src: &[u8],
@@ -328,77 +223,64 @@ pub extern "C" fn baizeridge_scan_input(
     rounds: &mut usize,
     place: &mut usize,
 ) -> u8
-    ensures { λ r. ⌜ seen r (now (place .exit)) ≡ shown (scanned (inputOf (now (src .entry)))) (now (place .entry)) ⌝ }
-    ensures { λ r. ⌜ now (height .exit) ≡ valueOr (scanned (inputOf (now (src .entry)))) heightIn (now (height .entry)) ⌝ }
-    ensures { λ r. ⌜ now (distance .exit) ≡ valueOr (scanned (inputOf (now (src .entry)))) distanceIn (now (distance .entry)) ⌝ }
-    ensures { λ r. ⌜ now (rounds .exit) ≡ valueOr (scanned (inputOf (now (src .entry)))) roundsIn (now (rounds .entry)) ⌝ }
+    ensures { λ r. ⌜ scanOut (reply r (now (place .exit))) (now (height .exit)) (now (distance .exit)) (now (rounds .exit)) ≡ inputScanned (now (src .entry)) (now (height .entry)) (now (distance .entry)) (now (rounds .entry)) (now (place .entry)) ⌝ }
 {
-    match stream::scan_input(src) {
-        InputRead::Rounds(shape, n) => {
-            *height = shape.height as u32;
-            *distance = shape.distance as u32;
-            *rounds = n;
-            *place = src.len();
-            0
-        }
-        InputRead::Refused(f) => refuse(f, place),
-    }
+    let s = stream::scan_input(src);
+    reply::stream(s, src.len(), height, distance, rounds, place)
+}
+
+// Reads a whole result stream in the same way.
+#[no_mangle]
+pub extern "C" fn baizeridge_scan_results(
+    src: &[u8],
+    height: &mut u32,
+    distance: &mut u32,
+    rounds: &mut usize,
+    place: &mut usize,
+) -> u8
+    ensures { λ r. ⌜ scanOut (reply r (now (place .exit))) (now (height .exit)) (now (distance .exit)) (now (rounds .exit)) ≡ resultsScanned (now (src .entry)) (now (height .entry)) (now (distance .entry)) (now (rounds .entry)) (now (place .entry)) ⌝ }
+{
+    let s = stream::scan_results(src);
+    reply::stream(s, src.len(), height, distance, rounds, place)
 }
 
 // The sizes of a shape, 0 where it is refused: the nodes of its window,
 #[no_mangle]
 pub extern "C" fn baizeridge_nodes(height: u32, distance: u32) -> usize
-    ensures { λ r. ⌜ r ≡ valueOr (shapeOf height distance) nodesBy 0 ⌝ }
+    ensures { λ r. ⌜ r ≡ nodesBy height distance ⌝ }
 {
-    match shape::shape_of(height, distance) {
-        Shaped::Shape(shape) => shape::nodes(shape),
-        Shaped::Refused(_) => 0,
-    }
+    named::nodes(height, distance)
 }
 
 // the detectors of a sheet,
 #[no_mangle]
 pub extern "C" fn baizeridge_detectors(height: u32, distance: u32) -> usize
-    ensures { λ r. ⌜ r ≡ valueOr (shapeOf height distance) detectorsBy 0 ⌝ }
+    ensures { λ r. ⌜ r ≡ detectorsBy height distance ⌝ }
 {
-    match shape::shape_of(height, distance) {
-        Shaped::Shape(shape) => shape::detectors(shape),
-        Shaped::Refused(_) => 0,
-    }
+    named::detectors(height, distance)
 }
 
 // and the edges of a layer.
 #[no_mangle]
 pub extern "C" fn baizeridge_layer_edges(height: u32, distance: u32) -> usize
-    ensures { λ r. ⌜ r ≡ valueOr (shapeOf height distance) edgesBy 0 ⌝ }
+    ensures { λ r. ⌜ r ≡ edgesBy height distance ⌝ }
 {
-    match shape::shape_of(height, distance) {
-        Shaped::Shape(shape) => shape::layer_edges(shape),
-        Shaped::Refused(_) => 0,
-    }
+    named::layer_edges(height, distance)
 }
 
-// How a decoding ended, in one number.
-fn ending(e: Ending) -> u8
-    ensures { λ r. ⌜ r ≡ lineStatus (toldLine e) ⌝ }
-{
-    match e {
-        Ending::Finished => 0,
-        Ending::Spent => 254,
-        Ending::Refused(f) => refusal::number(f),
-    }
-}
-
-// Decodes a whole input stream: the result stream goes to the front of out, and count takes its length, however it ends. 0 where the
-// input's end is reached, 254 where a round is spent, else the refusal's number.
+// Decodes a whole input stream. The result stream goes to the front of out, and count takes its length, however it ends: the header's bytes, if
+// it was read and had room, and those of the finished rounds; the bytes behind them stay as they were. Returns 0 where the input's end is reached,
+// 254 where a round is spent, else the refusal's number; place takes the offset that a refusal carries.
 #[no_mangle]
-pub extern "C" fn baizeridge_decode(src: &[u8], out: &mut [u8], count: &mut usize) -> u8
-    ensures { λ r. ⌜ r ≡ lineStatus (decodeLeaves base (now (src .entry)) (now (out .entry)) .line) ⌝ }
-    ensures { λ r. ⌜ now (count .exit) ≡ decodeLeaves base (now (src .entry)) (now (out .entry)) .count ⌝ }
-    ensures { λ r. ⌜ now (out .exit) ≡ decodeLeaves base (now (src .entry)) (now (out .entry)) .buffer ⌝ }
+pub extern "C" fn baizeridge_decode(
+    src: &[u8],
+    out: &mut [u8],
+    count: &mut usize,
+    place: &mut usize,
+) -> u8
+    ensures { λ r. ⌜ decodeOut (reply r (now (place .exit))) (now (out .exit)) (now (count .exit)) ≡ streamDecoded (now (src .entry)) (now (out .entry)) (now (place .entry)) ⌝ }
 {
     let r = session::decode(src, out);
-    *count = r.count;
     let e = r.ending;
-    ending(e)
+    reply::ending(e, r.count, count, place)
 }

@@ -1,5 +1,5 @@
--- What an edge gains and when a node is cut, by the tests that the code makes. Assumes nothing.
-use Prim.Native.Nat.{ℕ, _+_, _-_, _*_, _≤_, _<_}
+-- When a node is cut, and one turn of the loop. Assumes nothing.
+use Prim.Native.Nat.{ℕ, _+_, _-_, _*_, _<_}
 use native.Mathlib.Omega.{arith}
 use mathlib.Core.Path.{_≡_, sym, _∙_}
 use mathlib.Core.Bool.{Bool, true, false, _&&_}
@@ -8,48 +8,28 @@ use lib.Dec.{eqb}
 use lib.ListN.{length, getD, set}
 use Rattle.shape.specs.Choice.{if, if-true, if-false}
 use Rattle.shape.specs.Sizes.{sheetsOf}
-use Rattle.walk.specs.LawsWalk.{slot-at, falls-down}
-use Rattle.shape.specs.Steps.{base}
+use Rattle.walk.specs.LawsWalk.{slot-at}
+use Rattle.steps.specs.Steps.{base, falls}
 use Rattle.shape.specs.declared.Place.{Place}
-use Rattle.window.specs.Lists.{bit, over}
+use Rattle.window.specs.Lists.{over}
 use Rattle.window.specs.LawsLists.{over-three}
-use Rattle.window.specs.Window.{falls, namer, size, at, place, reach}
+use Rattle.window.specs.Window.{namer, size, at, place, reach}
 use Rattle.window.specs.Grow.{gains, cut, grownSlot, grownNode, grown}
 use Rattle.window.specs.declared.Stage.the-variants.{Merging}
 use Rattle.window.specs.declared.Node.{Node}
 use Rattle.window.specs.declared.Way.{Way}
 use Rattle.window.specs.declared.Window.{Window}
 
--- AN EDGE
-
-module _ (r : Way) (old : ℕ) (here other : Node) where
-  pub gains-none : r .there ≡ false → old ≡ gains r old here other
-  gains-none e = rw e
-
-  pub gains-full : r .there ≡ true → 2 ≤ old → 2 ≡ gains r old here other
-  gains-full e l = rw e (omega arith)
-
-  module _ (a b : ℕ) (p : a ≡ bit (here .active)) (q : b ≡ bit (other .active)) (e : r .there ≡ true) where
-    pub gains-capped : 2 ≤ old + a + b → 2 ≡ gains r old here other
-    gains-capped l = rw (e, ← p, ← q) (omega arith)
-
-    pub gains-sum : old + a + b < 2 → old + a + b ≡ gains r old here other
-    gains-sum l = rw (e, ← p, ← q) (omega arith)
-
-pub bit-low : (b : Bool) → bit b ≤ 1
-bit-low true = omega arith
-bit-low false = omega arith
-
 -- A NODE
 
-module _ (d depth s : ℕ) (n : Node) (e : s ≡ sheetsOf d) where
-  tested : (eqb (depth + 1) s && eqb (n .pointer) 5) ≡ (eqb (depth + 1) (sheetsOf d) && falls base (n .pointer))
-  tested = rw (e, falls-down (n .pointer))
+module _ (d depth s : ℕ) (n : Node) (e : s ≡ sheetsOf d) (down : Bool) (f : down ≡ falls base (n .pointer)) where
+  tested : (eqb (depth + 1) s && down) ≡ (eqb (depth + 1) (sheetsOf d) && falls base (n .pointer))
+  tested = rw (e, f)
 
-  pub cut-yes : eqb (depth + 1) s && eqb (n .pointer) 5 ≡ true → cut n ≡ if (eqb (depth + 1) (sheetsOf d) && falls base (n .pointer)) (cut n) n
+  pub cut-yes : eqb (depth + 1) s && down ≡ true → cut n ≡ if (eqb (depth + 1) (sheetsOf d) && falls base (n .pointer)) (cut n) n
   cut-yes t = sym (if-true _ (cut n) n (sym tested ∙ t))
 
-  pub cut-no : eqb (depth + 1) s && eqb (n .pointer) 5 ≡ false → n ≡ if (eqb (depth + 1) (sheetsOf d) && falls base (n .pointer)) (cut n) n
+  pub cut-no : eqb (depth + 1) s && down ≡ false → n ≡ if (eqb (depth + 1) (sheetsOf d) && falls base (n .pointer)) (cut n) n
   cut-no t = sym (if-false _ (cut n) n (sym tested ∙ t))
 
 -- A TURN OF THE LOOP

@@ -14,19 +14,20 @@ use lib.Seq.{drop-cons}
 use Rattle.shape.specs.Choice.{if-false, order, tell}
 use Rattle.shape.specs.Sizes.{sheetsOf, boundary}
 use Rattle.shape.specs.Ranges.{halves}
-use Rattle.shape.specs.Steps.{base}
+use Rattle.steps.specs.Steps.{base, falls}
 use Rattle.shape.specs.declared.Place.{Place}
 use Rattle.walk.specs.Walk.{Stands}
 use Rattle.walk.specs.LawsWalk.{way-low, falls-down, named-east, named-south, named-up}
 use Rattle.walk.specs.Ways.{east-none, east-way, south-none, south-way, up-none, up-way}
 use Rattle.window.specs.Lists.{byPlace, over}
 use Rattle.window.specs.LawsLists.{and-no, by-snoc}
-use Rattle.window.specs.Window.{nowhere, falls, namer, at, bottom, place, reach}
+use Rattle.window.specs.Window.{nowhere, namer, at, bottom, place, reach}
 use Rattle.window.specs.Grow.{gains, grownSlot, grownNode}
 use Rattle.window.specs.declared.Node.{Node}
 use Rattle.window.specs.declared.Way.{Way}
 use Rattle.window.specs.declared.Window.{Window}
-use Rattle.grow.proofs.Parts.{gains-none, slot-by}
+use Rattle.edge.proofs.Gains.{gains-none}
+use Rattle.grow.proofs.Parts.{slot-by}
 
 -- an entry that its rule leaves as it was
 pub over-skip : {A : Type 0} (f : ℕ → A) (old : List A) (i : ℕ) (d : A) → i < length old → getD old i d ≡ f i → over i f old ≡ over (i + 1) f old

@@ -4,7 +4,6 @@ use shape::Shape;
 use window::Mark;
 use window::Node;
 use window::Stage;
-use window::Way;
 use window::Window;
 ghost use mathlib.Core.Path.{_≡_};
 ghost use mathlib.Core.Bool.{_&&_};
@@ -12,33 +11,14 @@ ghost use Prim.Native.Nat.{_+_, _-_, _<_};
 ghost use lib.Dec.{eqb};
 ghost use Rattle.shape.specs.Choice.{if};
 ghost use Rattle.shape.specs.Sizes.{sheetsOf};
-ghost use Rattle.shape.specs.Steps.{base};
-ghost use Rattle.window.specs.Lists.{bit};
-ghost use Rattle.window.specs.Window.{falls};
-ghost use Rattle.window.specs.Grow.{gains, cut, grown};
-
-// The halves of the edge over a way, by its two ends.
-fn gain(way: Way, old: u8, node: Node, other: Node) -> u8
-    ensures { λ r. ⌜ r ≡ gains way old node other ⌝ }
-{
-    if !way.there {
-        return old;
-    }
-    if 2 <= old {
-        return 2;
-    }
-    let sum = old + window::bit(node.active) + window::bit(other.active);
-    if 2 <= sum {
-        return 2;
-    }
-    sum
-}
+ghost use Rattle.steps.specs.Steps.{base, falls};
+ghost use Rattle.window.specs.Grow.{cut, grown};
 
 // A bottom node whose pointer is D gets mark reset and pointer C.
 fn cut_down(shape: Shape, place: Place, node: Node) -> Node
     ensures { λ r. ⌜ r ≡ if (eqb (place .depth + 1) (sheetsOf (shape .distance)) && falls base (node .pointer)) (cut node) node ⌝ }
 {
-    if (place.depth as usize + 1 == shape::sheets(shape)) & (node.pointer == 5) {
+    if (place.depth as usize + 1 == shape::sheets(shape)) & steps::falls(node.pointer) {
         return Node {
             active: node.active,
             defect: node.defect,
@@ -120,9 +100,9 @@ pub fn grow(w: Window) -> Window
         let a = east.node;
         let b = south.node;
         let c = up.node;
-        v.growth[e] = gain(east, w.growth[e], node, w.nodes[a]);
-        v.growth[e + 1] = gain(south, w.growth[e + 1], node, w.nodes[b]);
-        v.growth[e + 2] = gain(up, w.growth[e + 2], node, w.nodes[c]);
+        v.growth[e] = edge::gain(east, w.growth[e], node, w.nodes[a]);
+        v.growth[e + 1] = edge::gain(south, w.growth[e + 1], node, w.nodes[b]);
+        v.growth[e + 2] = edge::gain(up, w.growth[e + 2], node, w.nodes[c]);
     }
     v
 }

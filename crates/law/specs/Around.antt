@@ -8,20 +8,20 @@ use lib.ListN.{length}
 use Rattle.shape.specs.Choice.{if-true, if-false, tell}
 use Rattle.shape.specs.Ranges.{Ranged, halves, both}
 use Rattle.shape.specs.Sizes.{layerEdgesOf}
-use Rattle.shape.specs.Steps.{Table, step, goes, across, slot}
-use Rattle.shape.specs.Joins.{Joins}
-use Rattle.shape.specs.Proper.{Opposed, points}
-use Rattle.shape.specs.Layer.{edgeNumber, edgeOf}
-use Rattle.shape.specs.LawsEdge.{nodeOf}
-use Rattle.shape.specs.LawsStep.{across-back, joins-back, slots-apart, namer as namedBy}
-use Rattle.shape.specs.declared.Edge.{Edge}
+use Rattle.steps.specs.Steps.{Table, step, goes, across, slot}
+use Rattle.steps.specs.Joins.{Joins}
+use Rattle.steps.specs.Proper.{Opposed, points}
+use Rattle.layers.specs.Layer.{edgeNumber, edgeOf}
+use Rattle.layers.specs.LawsEdge.{nodeOf}
+use Rattle.steps.specs.LawsStep.{across-back, joins-back, slots-apart, namer as namedBy}
+use Rattle.layers.specs.declared.Edge.{Edge}
 use Rattle.shape.specs.declared.Place.{Place}
 use Rattle.window.specs.Window.{namer, reach}
 use Rattle.window.specs.Round.{edgeSlot}
 use Rattle.closure.specs.Lists.{either, other}
 use Rattle.closure.specs.Suited.{Suited}
 use Rattle.closure.specs.Edges.{edge, edge-near, edge-there}
-use Rattle.law.specs.Law.{Played, Spot, near, far, same, ends, height, distance, sheets, last, inWindow, placeOf}
+use Rattle.law.specs.Law.{Played, Spot, nearEnd, farEnd, same, ends, height, distance, sheets, last, inWindow, placeNow}
 use Rattle.law.specs.Bits.{and-swap}
 use Rattle.law.specs.Sums.{parity, parity-same, Led, Matched, matched}
 use Rattle.law.specs.Naming.{Names, namer-names, namer-back}
@@ -42,7 +42,7 @@ module _ (T : Table) (S : Suited T) (L : Layered T) (p : Played) (r : Ranged (he
   s = sheets p
 
   abbrev q : Place
-  q = placeOf p a
+  q = placeNow p a
 
   -- by pointer
   abbrev layerAt : ℕ → ℕ
@@ -74,24 +74,24 @@ module _ (T : Table) (S : Suited T) (L : Layered T) (p : Played) (r : Ranged (he
     spot-back = spot-by (spotAt (last p) q) a (omega arith) refl refl
 
     -- the edge ends here
-    near-here : step T v .own ≡ true → same (near (layerAt v) (edgeHere T q v)) a ≡ true
+    near-here : step T v .own ≡ true → same (nearEnd (layerAt v) (edgeHere T q v)) a ≡ true
     near-here o =
         let x : m ≡ q = if-true (step T v .own) q (across (step T v) q) o in
         subst (λ (b : Spot). same b a ≡ true) (sym (ap (spotAt (last p)) x ∙ spot-back)) (same-self a)
 
-    far-here : step T v .own ≡ false → same (far T (layerAt v) (edgeHere T q v)) a ≡ true
+    far-here : step T v .own ≡ false → same (farEnd T (layerAt v) (edgeHere T q v)) a ≡ true
     far-here o =
         let x : m ≡ across (step T v) q = if-false (step T v .own) q (across (step T v) q) o in
         let y : namer T (step T v .kind) ≡ step T v .back = namer-back T S v (points T v (j .moves)) o in
         let l : s ≤ last p + 1 = omega arith in
-        let z : far T (layerAt v) (edgeHere T q v) ≡ a
+        let z : farEnd T (layerAt v) (edgeHere T q v) ≡ a
         = ap₂ (λ (b : ℕ) (c : Place). farBy (step T b) (last p - c .depth) c) y x
         ∙ far-back h d s (last p) (step T v) (step T (step T v .back)) (back .reversed) q j l
         ∙ spot-back in
         subst (λ (b : Spot). same b a ≡ true) (sym z) (same-self a)
 
     ends-here : ends T (layerAt v) (edgeHere T q v) a ≡ true
-    ends-here = ⊎-elim (λ o. either _ _ (near-here o)) (λ o. other (same (near (layerAt v) (edgeHere T q v)) a) _ (far-here o)) (tell (step T v .own))
+    ends-here = ⊎-elim (λ o. either _ _ (near-here o)) (λ o. other (same (nearEnd (layerAt v) (edgeHere T q v)) a) _ (far-here o)) (tell (step T v .own))
 
     edged-here : (edged T p (layerAt v) (edgeAt v) && ends T (layerAt v) (edgeOf h d (edgeAt v)) a) ≡ true
     edged-here =
@@ -99,7 +99,7 @@ module _ (T : Table) (S : Suited T) (L : Layered T) (p : Played) (r : Ranged (he
         let x = depth-back in
         let y = named .from .depth in
         let l : last p - layerAt v < s = omega arith in
-        subst (λ (e : Edge). (inWindow p (layerAt v) && reach T h d s (namer T (e .kind)) (placeOf p (near (layerAt v) e)) .there && ends T (layerAt v) e a) ≡ true)
+        subst (λ (e : Edge). (inWindow p (layerAt v) && reach T h d s (namer T (e .kind)) (placeNow p (nearEnd (layerAt v) e)) .there && ends T (layerAt v) e a) ≡ true)
         (sym (number-is T S h d s q v j L))
         (both _ _
         (both _ _ (in-window p (layerAt v) n l)
@@ -150,12 +150,12 @@ module _ (T : Table) (S : Suited T) (L : Layered T) (p : Played) (r : Ranged (he
     names : Names T (e .kind) v
     names = namer-names T S (e .kind) (L .kind h d i r l)
 
-    near-led : Joins h d s (step T v) end → near n e ≡ a → LedTo n i
+    near-led : Joins h d s (step T v) end → nearEnd n e ≡ a → LedTo n i
     near-led J c =
-        let x : end ≡ q = ap (placeOf p) c in
+        let x : end ≡ q = ap (placeNow p) c in
         led v (subst (λ (c : Place). Joins h d s (step T v) c) x J) (if-true (step T v .own) q (across (step T v) q) (names .own) ∙ sym x) (names .same)
 
-    far-led : Joins h d s (step T v) end → far T n e ≡ a → LedTo n i
+    far-led : Joins h d s (step T v) end → farEnd T n e ≡ a → LedTo n i
     unfolding across
     far-led J c =
         let O = way-opposed T S L h d i r l in
@@ -163,7 +163,7 @@ module _ (T : Table) (S : Suited T) (L : Layered T) (p : Played) (r : Ranged (he
         let k = J .sheet in
         let x : last p - (n + step T v .sheet .less - step T v .sheet .more) ≡ goes (step T v .sheet) (last p - n) = omega arith in
         let y : across (step T v) end ≡ q
-        = ap {B = Place} (λ (k : ℕ). record { depth = k; row = goes (step T v .row) (e .row); column = goes (step T v .column) (e .column) }) (sym x) ∙ ap (placeOf p) c in
+        = ap {B = Place} (λ (k : ℕ). record { depth = k; row = goes (step T v .row) (e .row); column = goes (step T v .column) (e .column) }) (sym x) ∙ ap (placeNow p) c in
         let o : step T (step T v .back) .own ≡ false = O .reversed .own ∙ ap not (names .own) in
         led (step T v .back)
         (subst (λ (c : Place). Joins h d s (step T (step T v .back)) c) y (joins-back h d s (step T v) (step T (step T v .back)) (O .reversed) end J))

@@ -6,7 +6,7 @@ use mathlib.Core.Bool.{true}
 use borrow.Author.Tests.{eqb-true}
 use lib.ListN.{getD, replicate}
 use Rattle.shape.specs.Ranges.{halves}
-use Rattle.shape.specs.Steps.{Table}
+use Rattle.steps.specs.Steps.{Table}
 use Rattle.shape.specs.declared.Shape.{Shape}
 use Rattle.window.specs.Fresh.{freshWindow}
 use Rattle.window.specs.LawsLists.{and-no}

@@ -9,7 +9,7 @@ use lib.ListN.{getD}
 use Rattle.refusal.specs.Laws.{undone}
 use Rattle.shape.specs.Choice.{if-true, if-false, tell, order}
 use Rattle.shape.specs.Ranges.{halves, both}
-use Rattle.shape.specs.Steps.{Table}
+use Rattle.steps.specs.Steps.{Table}
 use Rattle.window.specs.Grow.{gains, cut, grownSlot, grown}
 use Rattle.window.specs.Lists.{bit}
 use Rattle.window.specs.LawsLists.{over-at, over-later}

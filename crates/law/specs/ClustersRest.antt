@@ -11,7 +11,7 @@ use lib.ListN.{length, getD}
 use Rattle.refusal.specs.Laws.{undone}
 use Rattle.shape.specs.Choice.{if, if-true, if-false, tell}
 use Rattle.shape.specs.Ranges.{halves, both}
-use Rattle.shape.specs.Steps.{Table, step}
+use Rattle.steps.specs.Steps.{Table, step}
 use Rattle.window.specs.Lists.{byPlace, any, xor}
 use Rattle.window.specs.LawsLists.{getD-by, and-no}
 use Rattle.window.specs.Window.{isRest, size, at, detector, to}

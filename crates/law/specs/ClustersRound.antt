@@ -9,12 +9,12 @@ use borrow.Author.Tests.{eqb-true, eq-eqb}
 use lib.ListN.{getD}
 use Rattle.refusal.specs.Laws.{undone}
 use Rattle.shape.specs.Choice.{tell, order}
-use Rattle.shape.specs.Joins.{Joins}
+use Rattle.steps.specs.Joins.{Joins}
 use Rattle.shape.specs.Nodes.{numberOf}
 use Rattle.shape.specs.Ranges.{Ranged, nodes-of, halves, both}
 use Rattle.shape.specs.Sizes.{sheetsOf}
-use Rattle.shape.specs.Steps.{Table, step, across}
-use Rattle.window.specs.Round.{loweredNumber, lowered, sunk, received, rounded}
+use Rattle.steps.specs.Steps.{Table, step, across}
+use Rattle.window.specs.Round.{loweredNumber, lowered, sunk, topNode, rounded}
 use Rattle.window.specs.Window.{reach, size, sheet, at, place, to}
 use Rattle.window.specs.declared.Mark.{Mark}
 use Rattle.window.specs.declared.Stage.the-variants.{ToGrow}
@@ -42,7 +42,7 @@ module _ (T : Table) (S : Suited T) (w : Window) (bytes : List ℕ) (r : Ranged 
   w' = rounded T w bytes
 
   top-sunk : (v : ℕ) → v < size w → v < sheet w → Sunk T w' v
-  unfolding rounded received
+  unfolding rounded topNode
   top-sunk v l m =
       let a = top-at T w v l bytes m in
       let c = pointers a in

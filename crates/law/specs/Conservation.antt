@@ -1,5 +1,5 @@
 -- THE CONSERVATION CLAUSE is kept by the rules. Assumes nothing.
-use Rattle.shape.specs.Steps.{Table}
+use Rattle.steps.specs.Steps.{Table}
 use Rattle.closure.specs.Suited.{Suited}
 use Rattle.closure.specs.Facts.{facts}
 use Rattle.law.specs.Law.{Conserved}

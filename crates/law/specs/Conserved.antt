@@ -5,14 +5,14 @@ use mathlib.Core.Bool.{Bool, false, _&&_}
 use lib.Dec.{eqb}
 use lib.ListN.{length, getD}
 use Rattle.shape.specs.Sizes.{layerEdgesOf}
-use Rattle.shape.specs.Steps.{Table}
+use Rattle.steps.specs.Steps.{Table}
 use Rattle.shape.specs.Nodes.{indexOf}
-use Rattle.shape.specs.Layer.{edgeOf}
+use Rattle.layers.specs.Layer.{edgeOf}
 use Rattle.window.specs.Lists.{bit, xor}
 use Rattle.window.specs.LawsLists.{and-not}
 use Rattle.window.specs.Window.{reach, namer, present, at}
 use Rattle.window.specs.Round.{edgeSlot}
-use Rattle.law.specs.Law.{Played, Receipt, Spot, Detector, near, ends, sum, height, distance, sheets, last, entry, inWindow, placeOf, received, committed, standing, escaped, pending, ending, Conserved}
+use Rattle.law.specs.Law.{Played, Receipt, Spot, Detector, nearEnd, ends, sum, height, distance, sheets, last, entry, inWindow, placeNow, received, committed, standing, escaped, pending, ending, Conserved}
 use Rattle.law.specs.Bits.{xor-none, none-xor, xor-laws, xor-and, bit-add, bit-mod}
 use Rattle.law.specs.Sums.{parity, parity-xor, parity-same, parity-none, sum-parity}
 use Rattle.law.specs.Spots.{in-window, not-in-window}
@@ -30,11 +30,11 @@ module _ (p : Played) (a : Spot) where
   left-defect l = ap (λ (b : Bool). xor b (escaped p a)) (and-not (inWindow p (a .round)) _ (not-in-window p (a .round) l)) ∙ none-xor (escaped p a)
 
   pub held-defect : length (p .receipts) ≤ a .round → a .round ≤ last p → last p - a .round < sheets p
-      → defective p a ≡ at (p .window) (indexOf (height p) (distance p) (placeOf p a)) .defect
+      → defective p a ≡ at (p .window) (indexOf (height p) (distance p) (placeNow p a)) .defect
   held-defect low high b =
-      ap₂ (λ (b : Bool) (x : Receipt). xor (b && at (p .window) (indexOf (height p) (distance p) (placeOf p a)) .defect) (eqb (getD (x .escapes) (entry p a) 0) 1))
+      ap₂ (λ (b : Bool) (x : Receipt). xor (b && at (p .window) (indexOf (height p) (distance p) (placeNow p a)) .defect) (eqb (getD (x .escapes) (entry p a) 0) 1))
       (in-window p (a .round) high b) (no-receipt p (a .round) low)
-      ∙ xor-none (at (p .window) (indexOf (height p) (distance p) (placeOf p a)) .defect)
+      ∙ xor-none (at (p .window) (indexOf (height p) (distance p) (placeNow p a)) .defect)
 
 module _ (T : Table) (p : Played) where
   -- the edges of a sort that end at a spot
@@ -46,7 +46,7 @@ module _ (T : Table) (p : Played) where
   abbrev pub edged : ℕ → ℕ → Bool
   edged n i =
       let e = edgeOf (height p) (distance p) i in
-      inWindow p n && reach T (height p) (distance p) (present (p .window)) (namer T (e .kind)) (placeOf p (near n e)) .there
+      inWindow p n && reach T (height p) (distance p) (present (p .window)) (namer T (e .kind)) (placeNow p (nearEnd n e)) .there
 
   abbrev pub slotOf : ℕ → ℕ → ℕ
   slotOf n i = edgeSlot T (height p) (distance p) (last p - n) (edgeOf (height p) (distance p) i)

@@ -9,14 +9,14 @@ use Rattle.shape.specs.Choice.{if-true}
 use Rattle.shape.specs.Sizes.{inRange}
 use Rattle.shape.specs.Ranges.{ranged}
 use Rattle.shape.specs.Nodes.{indexOf}
-use Rattle.shape.specs.Steps.{Table}
+use Rattle.steps.specs.Steps.{Table}
 use Rattle.shape.specs.declared.Shape.{Shape}
 use Rattle.window.specs.Lists.{bit, xor}
 use Rattle.window.specs.LawsLists.{and-no, and-not}
 use Rattle.window.specs.Fresh.{freshWindow}
 use Rattle.closure.specs.Lists.{getD-same}
 use Rattle.closure.specs.After.{fresh-at}
-use Rattle.law.specs.Law.{Played, Spot, Detector, start, height, distance, sheets, last, inWindow, placeOf, received, standing, Conserved}
+use Rattle.law.specs.Law.{Played, Spot, Detector, start, height, distance, sheets, last, inWindow, placeNow, received, standing, Conserved}
 use Rattle.law.specs.Nodes.{defects}
 use Rattle.law.specs.Spots.{spot-lt}
 use Rattle.law.specs.Conserved.{ended-none, edged, slotOf, corrected, defective, conserved-by}
@@ -33,7 +33,7 @@ module _ (T : Table) (sh : Shape) (e : inRange (sh .height) (sh .distance) ≡ t
   unfolding freshWindow
   fresh-spot a i =
       let l : last fresh - a .round < sheets fresh = omega arith in
-      and-no (inWindow fresh (a .round)) _ (defects (fresh-at sh (indexOf (sh .height) (sh .distance) (placeOf fresh a)) (spot-lt fresh a i l (ranged _ _ e))))
+      and-no (inWindow fresh (a .round)) _ (defects (fresh-at sh (indexOf (sh .height) (sh .distance) (placeNow fresh a)) (spot-lt fresh a i l (ranged _ _ e))))
 
   pub conserved-fresh : Conserved T fresh
   unfolding freshWindow
@@ -41,7 +41,7 @@ module _ (T : Table) (sh : Shape) (e : inRange (sh .height) (sh .distance) ≡ t
       conserved-by T fresh
       (λ a i.
       let x = ended-none T fresh (corrected T fresh) a (λ n j l k. and-not _ _ (fresh-edge n j)) in
-      let l : a .round < sheets fresh = omega (arith, i .received) in
+      let l : a .round < sheets fresh = omega (arith, i .arrived) in
       let y : defective fresh a ≡ false = ap (λ (b : Bool). xor b false) (fresh-spot a i) in
       ap (λ (n : ℕ). n % 2) (if-true {A = ℕ} (ltb (a .round) (sheets fresh)) 0 _ (lt-ltb _ _ l))
       ∙ ap bit (sym (ap₂ (λ (b c : Bool). xor b c) x y)))

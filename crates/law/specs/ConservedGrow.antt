@@ -5,14 +5,14 @@ use mathlib.Core.Bool.{Bool, _&&_}
 use mathlib.Core.Logic.{⊎-elim}
 use Rattle.shape.specs.Choice.{tell, order}
 use Rattle.shape.specs.Nodes.{indexOf}
-use Rattle.shape.specs.Steps.{Table}
+use Rattle.steps.specs.Steps.{Table}
 use Rattle.window.specs.Lists.{bit, xor}
 use Rattle.window.specs.LawsLists.{over-later}
 use Rattle.window.specs.Window.{size, at, beyond}
 use Rattle.window.specs.Grow.{grownNode, grown}
 use Rattle.closure.specs.After.{orphan, cut-at, uncut-at}
-use Rattle.law.specs.Law.{Played, height, distance, inWindow, placeOf, received, escaped, Conserved}
-use Rattle.law.specs.Rules.{moved}
+use Rattle.law.specs.Law.{Played, height, distance, inWindow, placeNow, received, escaped, Conserved}
+use Rattle.law.specs.Rules.{withWindow}
 use Rattle.law.specs.Nodes.{defects}
 use Rattle.law.specs.Conserved.{ended, corrected, charged, conserved-by}
 
@@ -25,10 +25,10 @@ module _ (T : Table) (p : Played) where
       (λ l. defects (over-later (grownNode T w) (w .nodes) (size w) g beyond l))
       (order g (size w))
 
-  pub conserved-grow : Conserved T p → Conserved T (moved p (grown T (p .window)))
+  pub conserved-grow : Conserved T p → Conserved T (withWindow p (grown T (p .window)))
   unfolding grown
   conserved-grow c =
-      conserved-by T (moved p (grown T (p .window)))
+      conserved-by T (withWindow p (grown T (p .window)))
       (λ a i.
-      charged T p c a (record { received = i .received; row = i .row; west = i .west; east = i .east })
-      ∙ ap (λ (b : Bool). bit (xor (ended T p (corrected T p) a) (xor (inWindow p (a .round) && b) (escaped p a)))) (sym (grown-defect (indexOf (height p) (distance p) (placeOf p a)))))
+      charged T p c a (record { arrived = i .arrived; row = i .row; west = i .west; east = i .east })
+      ∙ ap (λ (b : Bool). bit (xor (ended T p (corrected T p) a) (xor (inWindow p (a .round) && b) (escaped p a)))) (sym (grown-defect (indexOf (height p) (distance p) (placeNow p a)))))

@@ -11,8 +11,8 @@ use Rattle.shape.specs.Sizes.{boundary, layerEdgesOf}
 use Rattle.shape.specs.Boundaries.{not-end}
 use Rattle.shape.specs.Nodes.{indexOf}
 use Rattle.shape.specs.LawsIndex.{place-index}
-use Rattle.shape.specs.Steps.{Table, slot}
-use Rattle.shape.specs.Layer.{edgeOf}
+use Rattle.steps.specs.Steps.{Table, slot}
+use Rattle.layers.specs.Layer.{edgeOf}
 use Rattle.shape.specs.declared.Place.{Place}
 use Rattle.window.specs.Lists.{bit, xor}
 use Rattle.window.specs.LawsLists.{and-no, and-not}
@@ -21,8 +21,8 @@ use Rattle.window.specs.Merging.{merged}
 use Rattle.window.specs.declared.Window.{Window}
 use Rattle.closure.specs.Suited.{Suited}
 use Rattle.closure.specs.Facts.{Facts}
-use Rattle.law.specs.Law.{Played, Spot, Detector, ends, height, distance, sheets, last, inWindow, placeOf, committed, standing, escaped, pending, Conserved}
-use Rattle.law.specs.Rules.{moved}
+use Rattle.law.specs.Law.{Played, Spot, Detector, ends, height, distance, sheets, last, inWindow, placeNow, committed, standing, escaped, pending, Conserved}
+use Rattle.law.specs.Rules.{withWindow}
 use Rattle.law.specs.Bits.{refuted, xor-laws}
 use Rattle.law.specs.Sums.{parity}
 use Rattle.law.specs.Spots.{ends-at, in-window, window-in, below-window, spot-inside, spot-lt}
@@ -46,7 +46,7 @@ module _ (T : Table) (S : Suited T) (L : Layered T) (p : Played) (f : Facts T (p
   s = sheets p
 
   abbrev after : Played
-  after = moved p (merged T w)
+  after = withWindow p (merged T w)
 
   abbrev slots : (ℕ → Bool) → Spot → Bool
   slots C a = ended T p (λ n i. edged T p n i && C (slotOf T p n i)) a
@@ -54,10 +54,10 @@ module _ (T : Table) (S : Suited T) (L : Layered T) (p : Played) (f : Facts T (p
   -- what is pending, and standing, at a detector of the window
   module _ (a : Spot) (i : Detector p a) (l : last p - a .round < s) where
     abbrev g : ℕ
-    g = indexOf h d (placeOf p a)
+    g = indexOf h d (placeNow p a)
 
-    at-g : place w g ≡ placeOf p a
-    at-g = place-index h d s (placeOf p a) (spot-inside p a i l)
+    at-g : place w g ≡ placeNow p a
+    at-g = place-index h d s (placeNow p a) (spot-inside p a i l)
 
     det : boundary d (place w g .column) ≡ false
     det = ap (λ (q : Place). boundary d (q .column)) at-g ∙ not-end d (a .column) (i .west) (i .east)
@@ -68,10 +68,10 @@ module _ (T : Table) (S : Suited T) (L : Layered T) (p : Played) (f : Facts T (p
     inside : xor (slots (λ k. getD (merged T w .correction) k false) a) (inWindow p (a .round) && at (merged T w) g .defect)
         ≡ xor (slots (λ k. getD (w .correction) k false) a) (inWindow p (a .round) && at w g .defect)
     inside =
-        let x = in-window p (a .round) (i .received) l in
-        ap₂ (λ (c b : Bool). xor c (b && at (merged T w) g .defect)) (around T S L p (f .ranged) a (i .received) (λ k. getD (merged T w .correction) k false) ∙ ap (sumAt (merged T w .correction)) (sym at-g)) x
+        let x = in-window p (a .round) (i .arrived) l in
+        ap₂ (λ (c b : Bool). xor c (b && at (merged T w) g .defect)) (around T S L p (f .ranged) a (i .arrived) (λ k. getD (merged T w .correction) k false) ∙ ap (sumAt (merged T w .correction)) (sym at-g)) x
         ∙ pushed T w S f st g (spot-lt p a i l (f .ranged)) det
-        ∙ sym (ap₂ (λ (c b : Bool). xor c (b && at w g .defect)) (around T S L p (f .ranged) a (i .received) (λ k. getD (w .correction) k false) ∙ ap (sumAt (w .correction)) (sym at-g)) x)
+        ∙ sym (ap₂ (λ (c b : Bool). xor c (b && at w g .defect)) (around T S L p (f .ranged) a (i .arrived) (λ k. getD (w .correction) k false) ∙ ap (sumAt (w .correction)) (sym at-g)) x)
 
   -- at a detector that has left it: nothing
   module _ (a : Spot) (l : s ≤ last p - a .round) where
@@ -97,8 +97,8 @@ module _ (T : Table) (S : Suited T) (L : Layered T) (p : Played) (f : Facts T (p
   unfolding merged
   kept a i =
       ⊎-elim (inside a i)
-      (λ l. ap₂ (λ (x b : Bool). xor x (b && at (merged T w) (indexOf h d (placeOf p a)) .defect)) (outside a l (λ k. getD (merged T w .correction) k false)) (below-window p (a .round) l)
-      ∙ sym (ap₂ (λ (x b : Bool). xor x (b && at w (indexOf h d (placeOf p a)) .defect)) (outside a l (λ k. getD (w .correction) k false)) (below-window p (a .round) l)))
+      (λ l. ap₂ (λ (x b : Bool). xor x (b && at (merged T w) (indexOf h d (placeNow p a)) .defect)) (outside a l (λ k. getD (merged T w .correction) k false)) (below-window p (a .round) l)
+      ∙ sym (ap₂ (λ (x b : Bool). xor x (b && at w (indexOf h d (placeNow p a)) .defect)) (outside a l (λ k. getD (w .correction) k false)) (below-window p (a .round) l)))
       (order (last p - a .round) s)
 
   charge-kept : (a : Spot) → Detector p a → charge T after a ≡ charge T p a
@@ -122,5 +122,5 @@ module _ (T : Table) (S : Suited T) (L : Layered T) (p : Played) (f : Facts T (p
   conserved-merging c =
       conserved-by T after
       (λ a i.
-      let i' : Detector p a = record { received = i .received; row = i .row; west = i .west; east = i .east } in
+      let i' : Detector p a = record { arrived = i .arrived; row = i .row; west = i .west; east = i .east } in
       charged T p c a i' ∙ ap bit (sym (charge-kept a i')))

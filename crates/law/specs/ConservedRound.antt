@@ -11,8 +11,8 @@ use Rattle.list.specs.Sheet.{areBits}
 use Rattle.shape.specs.Choice.{order}
 use Rattle.shape.specs.Ranges.{Ranged}
 use Rattle.shape.specs.Sizes.{layerEdgesOf}
-use Rattle.shape.specs.Steps.{Table}
-use Rattle.shape.specs.Layer.{edgeOf}
+use Rattle.steps.specs.Steps.{Table}
+use Rattle.layers.specs.Layer.{edgeOf}
 use Rattle.window.specs.Lists.{bit, xor}
 use Rattle.window.specs.LawsLists.{and-not}
 use Rattle.window.specs.Round.{rounded}
@@ -67,13 +67,13 @@ module _ (T : Table) (S : Suited T) (L : Layered T) (p : Played) (bytes : List �
       old a i l =
           let high : a .round ≤ last p = omega arith in
           ap (λ (n : ℕ). n % 2) (old-received T p bytes a high)
-          ∙ charged T p c a (record { received = high; row = i .row; west = i .west; east = i .east })
+          ∙ charged T p c a (record { arrived = high; row = i .row; west = i .west; east = i .east })
           ∙ ap bit (sym (ap₂ (λ (x y : Bool). xor x y) (ended-after a) (old-defect T p bytes r a (i .row) (i .west) (i .east) high)))
 
       new : (a : Spot) → Detector after a → last p + 1 ≤ a .round → received after a % 2 ≡ bit (charge T after a)
       new a i l =
           let f = later T p bytes in
-          let e : a .round ≡ last p + 1 = omega (arith, i .received) in
+          let e : a .round ≡ last p + 1 = omega (arith, i .arrived) in
           ap (λ (n : ℕ). n % 2) (new-received T p bytes r a e)
           ∙ byte-bit bytes bits (entry p a)
           ∙ ap bit (sym (ap₂ (λ (x y : Bool). xor x y) (ended-after a ∙ ended-new a e) (new-defect T p bytes r a (i .row) (i .west) (i .east) e) ∙ none-xor (eqb (getD bytes (entry p a) 0) 1)))

@@ -7,7 +7,7 @@ use Rattle.shape.specs.Ranges.{Ranged, halves, both}
 use Rattle.shape.specs.Nodes.{indexOf, numberOf}
 use Rattle.shape.specs.LawsIndex.{index-place}
 use Rattle.shape.specs.LawsNumber.{number-injective}
-use Rattle.shape.specs.Steps.{Table}
+use Rattle.steps.specs.Steps.{Table}
 use Rattle.shape.specs.declared.Place.{Place}
 use Rattle.window.specs.Window.{size, place, to}
 use Rattle.window.specs.declared.Window.{Window}

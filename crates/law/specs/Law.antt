@@ -9,9 +9,9 @@ use Rattle.refusal.specs.Answer.{done, valueOr, itself}
 use Rattle.shape.specs.Choice.{if}
 use Rattle.shape.specs.Sizes.{sheetsOf, layerEdgesOf}
 use Rattle.shape.specs.Nodes.{indexOf, numberOf}
-use Rattle.shape.specs.Steps.{Table, step, goes}
-use Rattle.shape.specs.Layer.{edgeOf}
-use Rattle.shape.specs.declared.Edge.{Edge}
+use Rattle.steps.specs.Steps.{Table, step, goes}
+use Rattle.layers.specs.Layer.{edgeOf}
+use Rattle.layers.specs.declared.Edge.{Edge}
 use Rattle.shape.specs.declared.Place.{Place}
 use Rattle.window.specs.Lists.{bit}
 use Rattle.window.specs.Window.{isRest, reach, namer, size, present, at, place, detector, to}
@@ -78,24 +78,25 @@ same a b = eqb (a .round) (b .round) && eqb (a .row) (b .row) && eqb (a .column)
 
 -- An edge of round n's layer has one end at the node that names it, in round n, and the other over the step in which it is named: in
 -- the same round, or, one sheet up, in the next
-abbrev pub near : ℕ → Edge → Spot
-near n e = record { round = n; row = e .row; column = e .column }
+abbrev pub nearEnd : ℕ → Edge → Spot
+nearEnd n e = record { round = n; row = e .row; column = e .column }
 
-abbrev pub far : Table → ℕ → Edge → Spot
-far T n e =
+abbrev pub farEnd : Table → ℕ → Edge → Spot
+farEnd T n e =
     let st = step T (namer T (e .kind)) in
     record { round = n + st .sheet .less - st .sheet .more; row = goes (st .row) (e .row); column = goes (st .column) (e .column) }
 
 abbrev pub ends : Table → ℕ → Edge → Spot → Bool
-ends T n e a = same (near n e) a || same (far T n e) a
+ends T n e a = same (nearEnd n e) a || same (farEnd T n e) a
 
 -- f 0 + f 1 + .. + f (n - 1)
 unfoldable pub sum : ℕ → (ℕ → ℕ) → ℕ
 sum zero f = 0
 sum (suc n) f = sum n f + f n
 
-abbrev none : Receipt
-none = record { bytes = []; edges = []; escapes = [] }
+-- past the last receipt there is nothing
+abbrev pub noReceipt : Receipt
+noReceipt = record { bytes = []; edges = []; escapes = [] }
 
 module _ (p : Played) where
   abbrev pub height : ℕ
@@ -114,14 +115,14 @@ module _ (p : Played) where
 
   -- The ith of these calls, from 0: it receives round s + i, and the edges and the defects of round i leave the window
   abbrev pub receipt : ℕ → Receipt
-  receipt i = getD (p .receipts) i none
+  receipt i = getD (p .receipts) i noReceipt
 
   -- depth k is round last - k: the rounds that are in the window
   abbrev pub inWindow : ℕ → Bool
   inWindow n = leb n last && ltb (last - n) sheets
 
-  abbrev pub placeOf : Spot → Place
-  placeOf a = record { depth = last - a .round; row = a .row; column = a .column }
+  abbrev pub placeNow : Spot → Place
+  placeNow a = record { depth = last - a .round; row = a .row; column = a .column }
 
   -- the detector's byte in a slice or buffer of one byte a detector, row by row
   abbrev pub entry : Spot → ℕ
@@ -137,7 +138,7 @@ module _ (p : Played) where
 
   -- a defect stands now where the window holds one
   abbrev pub standing : Spot → Bool
-  standing a = inWindow (a .round) && at (p .window) (indexOf height distance (placeOf a)) .defect
+  standing a = inWindow (a .round) && at (p .window) (indexOf height distance (placeNow a)) .defect
 
   -- handed out as escaped is a detector of round n whose byte the call that receives round n + s left 1 in the escape buffer
   abbrev pub escaped : Spot → Bool
@@ -145,7 +146,7 @@ module _ (p : Played) where
 
   -- a detector of a round received
   pub record Detector (a : Spot) : Type 0 where
-    pub received : a .round ≤ last
+    pub arrived : a .round ≤ last
     pub row : a .row < height
     pub west : 1 ≤ a .column
     pub east : a .column < distance
@@ -156,7 +157,7 @@ module _ (T : Table) (p : Played) where
   pending n i =
       let e = edgeOf (height p) (distance p) i in
       inWindow p n
-      && reach T (height p) (distance p) (present (p .window)) (namer T (e .kind)) (placeOf p (near n e)) .there
+      && reach T (height p) (distance p) (present (p .window)) (namer T (e .kind)) (placeNow p (nearEnd n e)) .there
       && getD (p .window .correction) (edgeSlot T (height p) (distance p) (last p - n) e) false
 
   -- the number of edges of a sort that end at a detector: over the layers of all rounds received, and the edges i of each

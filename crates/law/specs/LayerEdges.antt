@@ -6,13 +6,13 @@ use mathlib.Core.Bool.{true}
 use Rattle.shape.specs.Ranges.{Ranged, halves, both}
 use Rattle.shape.specs.Sizes.{layerEdgesOf}
 use Rattle.shape.specs.Counting.{Inside}
-use Rattle.shape.specs.Steps.{Table, step}
-use Rattle.shape.specs.Joins.{Clear}
-use Rattle.shape.specs.Proper.{Opposed}
-use Rattle.shape.specs.Layer.{edgeOf}
-use Rattle.shape.specs.LawsEdge.{nodeOf}
-use Rattle.shape.specs.declared.Edge.{Edge}
-use Rattle.shape.specs.declared.Step.{Step}
+use Rattle.steps.specs.Steps.{Table, step}
+use Rattle.steps.specs.Joins.{Clear}
+use Rattle.steps.specs.Proper.{Opposed}
+use Rattle.layers.specs.Layer.{edgeOf}
+use Rattle.layers.specs.LawsEdge.{nodeOf}
+use Rattle.layers.specs.declared.Edge.{Edge}
+use Rattle.steps.specs.declared.Step.{Step}
 use Rattle.window.specs.Window.{namer}
 use Rattle.closure.specs.Suited.{Suited}
 use Rattle.closure.specs.Edges.{edge, edge-there}

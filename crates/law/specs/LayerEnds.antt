@@ -5,15 +5,15 @@ use mathlib.Core.Path.{_≡_, refl, ap, subst}
 use mathlib.Core.Logic.{⊎-elim}
 use Rattle.shape.specs.Choice.{if-true, if-false, tell}
 use Rattle.shape.specs.Sizes.{layerEdgesOf}
-use Rattle.shape.specs.Steps.{Table, step, goes, across, slot}
-use Rattle.shape.specs.Joins.{Joins}
-use Rattle.shape.specs.Proper.{Points, Opposed, Reversed, points}
-use Rattle.shape.specs.Layer.{edgeNumber, edgeOf}
-use Rattle.shape.specs.LawsStep.{across-back, joins-back, namer as namedBy}
-use Rattle.shape.specs.declared.Edge.{Edge}
+use Rattle.steps.specs.Steps.{Table, step, goes, across, slot}
+use Rattle.steps.specs.Joins.{Joins}
+use Rattle.steps.specs.Proper.{Points, Opposed, Reversed, points}
+use Rattle.layers.specs.Layer.{edgeNumber, edgeOf}
+use Rattle.steps.specs.LawsStep.{across-back, joins-back, namer as namedBy}
+use Rattle.layers.specs.declared.Edge.{Edge}
 use Rattle.shape.specs.declared.Place.{Place}
-use Rattle.shape.specs.declared.Shift.{Shift}
-use Rattle.shape.specs.declared.Step.{Step}
+use Rattle.steps.specs.declared.Shift.{Shift}
+use Rattle.steps.specs.declared.Step.{Step}
 use Rattle.window.specs.Window.{namer}
 use Rattle.window.specs.Round.{edgeSlot}
 use Rattle.closure.specs.Suited.{Suited}

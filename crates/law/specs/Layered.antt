@@ -5,12 +5,12 @@ use mathlib.Core.Path.{_≡_}
 use mathlib.Core.Bool.{true}
 use Rattle.shape.specs.Ranges.{Ranged}
 use Rattle.shape.specs.Sizes.{layerEdgesOf}
-use Rattle.shape.specs.Steps.{Table, base, step}
-use Rattle.shape.specs.Joins.{Clear, Joins, joins, joined-by}
-use Rattle.shape.specs.Layer.{edgeNumber, edgeOf}
-use Rattle.shape.specs.LawsLayer.{Has, along, between, above, edge-lt, edge-number, number-has, number-edge}
-use Rattle.shape.specs.LawsEdge.{nodeOf, edge-joined, joined-edge}
-use Rattle.shape.specs.declared.Edge.{Edge}
+use Rattle.steps.specs.Steps.{Table, base, step}
+use Rattle.steps.specs.Joins.{Clear, Joins, joins, joined-by}
+use Rattle.layers.specs.Layer.{edgeNumber, edgeOf}
+use Rattle.layers.specs.LawsLayer.{Has, along, between, above, edge-lt, edge-number, number-has, number-edge}
+use Rattle.layers.specs.LawsEdge.{nodeOf, edge-joined, joined-edge}
+use Rattle.layers.specs.declared.Edge.{Edge}
 use Rattle.shape.specs.declared.Place.{Place}
 use Rattle.window.specs.Window.{naming, namer}
 

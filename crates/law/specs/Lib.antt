@@ -1,5 +1,6 @@
--- the statement, and what is to be shown of each rule
+-- the statement, its terms met by value, and what is to be shown of each rule
 pub mod Law
+pub mod Witness
 pub mod Rules
 pub mod Play
 -- bits, sums, nodes and edges

@@ -13,7 +13,7 @@ use Rattle.shape.specs.Counting.{Inside, count-lt}
 use Rattle.shape.specs.LawsNumber.{number-boundary, number-detector, boundary-first}
 use Rattle.shape.specs.Nodes.{numberOf, boundaryNodes}
 use Rattle.shape.specs.Sizes.{sheetsOf, boundary}
-use Rattle.shape.specs.Totals.{twice, turned, sideways, inwards}
+use Rattle.shape.specs.Totals.{twice, by-sheets, sideways, inwards}
 use Rattle.shape.specs.declared.Place.{Place}
 use Rattle.window.specs.Round.{loweredNumber}
 use Rattle.closure.specs.Lower.{lower}
@@ -36,7 +36,7 @@ module _ (h d : ℕ) (q : Place) where
         omega (
           arith,
           number-detector h d q e,
-          turned h (d - 1) (sheetsOf d),
+          by-sheets h (d - 1) (sheetsOf d),
           count-lt h (d - 1) (sheetsOf d) (inwards q) (record { depth = i .depth; row = i .row; column = omega (arith, b .0, b .1) }),
         )
 

@@ -8,20 +8,20 @@ use mathlib.Core.Logic.{⊎-elim}
 use borrow.Author.Tests.{ne-eqb}
 use lib.Dec.{eqb}
 use lib.ListN.{getD}
-use Rattle.shape.specs.Cases.{slot-own}
+use Rattle.steps.specs.Slots.{slot-own}
 use Rattle.shape.specs.Choice.{tell}
 use Rattle.shape.specs.Counting.{Inside}
-use Rattle.shape.specs.Joins.{Joins, Clear}
+use Rattle.steps.specs.Joins.{Joins, Clear}
 use Rattle.shape.specs.LawsIndex.{place-index}
-use Rattle.shape.specs.LawsStep.{joins-back, slot-back}
+use Rattle.steps.specs.LawsStep.{joins-back, slot-back}
 use Rattle.shape.specs.Nodes.{indexOf}
-use Rattle.shape.specs.Proper.{points}
+use Rattle.steps.specs.Proper.{points}
 use Rattle.shape.specs.Ranges.{Ranged}
 use Rattle.shape.specs.Sizes.{sheetsOf}
-use Rattle.shape.specs.Steps.{Table, step, goes, across, slot}
+use Rattle.steps.specs.Steps.{Table, step, goes, across, slot}
 use Rattle.shape.specs.declared.Place.{Place}
-use Rattle.shape.specs.declared.Shift.{Shift}
-use Rattle.shape.specs.declared.Step.{Step}
+use Rattle.steps.specs.declared.Shift.{Shift}
+use Rattle.steps.specs.declared.Step.{Step}
 use Rattle.window.specs.Lists.{over}
 use Rattle.window.specs.Round.{atTop, fallenSlot}
 use Rattle.window.specs.Window.{namer, size, sheet}

@@ -8,9 +8,9 @@ use borrow.Author.Tests.{eqb-true}
 use lib.Dec.{eqb}
 use lib.ListN.{length, getD}
 use Rattle.shape.specs.Ranges.{halves}
-use Rattle.shape.specs.Steps.{Table, step, here}
-use Rattle.shape.specs.Proper.{Points}
-use Rattle.shape.specs.declared.Step.{Step}
+use Rattle.steps.specs.Steps.{Table, step, here}
+use Rattle.steps.specs.Proper.{Points}
+use Rattle.steps.specs.declared.Step.{Step}
 use Rattle.window.specs.Window.{naming, namer}
 use Rattle.closure.specs.Suited.{Suited}
 

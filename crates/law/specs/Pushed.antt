@@ -13,10 +13,10 @@ use Rattle.shape.specs.Ranges.{Ranged}
 use Rattle.shape.specs.Sizes.{sheetsOf, boundary}
 use Rattle.shape.specs.Nodes.{indexOf}
 use Rattle.shape.specs.LawsIndex.{index-place}
-use Rattle.shape.specs.Steps.{Table, step, across, slot}
-use Rattle.shape.specs.Joins.{Joins}
-use Rattle.shape.specs.Proper.{Points, points}
-use Rattle.shape.specs.LawsStep.{namer as namedBy}
+use Rattle.steps.specs.Steps.{Table, step, across, slot}
+use Rattle.steps.specs.Joins.{Joins}
+use Rattle.steps.specs.Proper.{Points, points}
+use Rattle.steps.specs.LawsStep.{namer as namedBy}
 use Rattle.shape.specs.declared.Place.{Place}
 use Rattle.window.specs.Lists.{xor}
 use Rattle.window.specs.LawsLists.{and-no}

@@ -6,7 +6,7 @@ use borrow.Author.Tests.{eqb-true, eq-eqb}
 use Rattle.refusal.specs.Laws.{undone}
 use Rattle.shape.specs.Ranges.{halves, both}
 use Rattle.shape.specs.Sizes.{boundary}
-use Rattle.shape.specs.Steps.{Table}
+use Rattle.steps.specs.Steps.{Table}
 use Rattle.window.specs.Window.{size, at, place, detector}
 use Rattle.window.specs.declared.Window.{Window}
 use Rattle.closure.specs.Suited.{Suited}

@@ -15,16 +15,16 @@ use Rattle.shape.specs.Boundaries.{not-end}
 use Rattle.shape.specs.LawsIndex.{place-index, index-lt}
 use Rattle.shape.specs.Nodes.{indexOf}
 use Rattle.shape.specs.Counting.{Inside, quotient, rest, before}
-use Rattle.shape.specs.Steps.{Table}
+use Rattle.steps.specs.Steps.{Table}
 use Rattle.shape.specs.declared.Place.{Place}
 use Rattle.window.specs.Lists.{bit}
 use Rattle.window.specs.LawsLists.{getD-by}
 use Rattle.window.specs.Window.{sheet, at}
-use Rattle.window.specs.Round.{detectorAt, rounded, received as arriving, escaped as escaping}
+use Rattle.window.specs.Round.{detectorAt, rounded, topNode as arriving, escapedDefects as escaping}
 use Rattle.closure.specs.Facts.{index-within}
 use Rattle.closure.specs.After.{top-at, sunk-at}
 use Rattle.closure.specs.Lower.{lower, index-lower}
-use Rattle.law.specs.Law.{Played, Receipt, Spot, height, distance, sheets, last, receipt, placeOf, entry, received}
+use Rattle.law.specs.Law.{Played, Receipt, Spot, height, distance, sheets, last, receipt, placeNow, entry, received}
 use Rattle.law.specs.Rules.{taken}
 use Rattle.law.specs.Bits.{bit-one}
 use Rattle.law.specs.Nodes.{defects}
@@ -122,7 +122,7 @@ module _ (T : Table) (p : Played) (bytes : List ℕ) where
       stands : count ≤ a .round → a .round ≤ last p → defective p a ≡ defectAt (last p - a .round)
       stands low high = let t = three p r in held-defect p a low high (omega arith)
 
-      stands-after : count < a .round → a .round ≤ last p + 1 → defective after a ≡ at (rounded T (p .window) bytes) (indexOf h d (placeOf after a)) .defect
+      stands-after : count < a .round → a .round ≤ last p + 1 → defective after a ≡ at (rounded T (p .window) bytes) (indexOf h d (placeNow after a)) .defect
       unfolding rounded
       stands-after low high =
           let t = three p r in
@@ -149,7 +149,7 @@ module _ (T : Table) (p : Played) (bytes : List ℕ) where
               let j : last after - a .round ≡ last p - a .round + 1 = lower-than T p bytes (a .round) high in
               stands-after x z
               ∙ ap (λ (k : ℕ). at (rounded T (p .window) bytes) (indexOf h d (record { depth = k; row = a .row; column = a .column })) .defect) j
-              ∙ sunk-defect (placeOf p a) (record { depth = m; row = row; column = omega arith })
+              ∙ sunk-defect (placeNow p a) (record { depth = m; row = row; column = omega arith })
               ∙ sym (stands y high)
 
       -- the new round's are those received

@@ -11,13 +11,13 @@ use lib.ListN.{length, getD}
 use Rattle.shape.specs.Choice.{tell, order}
 use Rattle.shape.specs.Ranges.{Ranged}
 use Rattle.shape.specs.Sizes.{layerEdgesOf}
-use Rattle.shape.specs.Steps.{Table, goes}
-use Rattle.shape.specs.Joins.{Clear}
-use Rattle.shape.specs.Layer.{edgeOf}
-use Rattle.shape.specs.LawsEdge.{nodeOf}
+use Rattle.steps.specs.Steps.{Table, goes}
+use Rattle.steps.specs.Joins.{Clear}
+use Rattle.layers.specs.Layer.{edgeOf}
+use Rattle.layers.specs.LawsEdge.{nodeOf}
 use Rattle.window.specs.Lists.{bit}
 use Rattle.window.specs.LawsLists.{getD-by, and-no, and-not}
-use Rattle.window.specs.Round.{edgeSlot, rounded, committed as leaving}
+use Rattle.window.specs.Round.{edgeSlot, rounded, committedEdges as leaving}
 use Rattle.closure.specs.Lists.{other}
 use Rattle.closure.specs.Suited.{Suited}
 use Rattle.law.specs.Law.{Played, Receipt, Spot, ends, height, distance, sheets, last, receipt, pending}

@@ -4,9 +4,9 @@ use mathlib.Core.Path.{_≡_}
 use mathlib.Core.Bool.{true}
 use mathlib.Core.List.{List, [], _∷_, _++_}
 use Rattle.list.specs.Sheet.{areBits}
-use Rattle.shape.specs.Steps.{Table}
+use Rattle.steps.specs.Steps.{Table}
 use Rattle.window.specs.Window.{isRest, isToGrow, isMerging}
-use Rattle.window.specs.Round.{rounded, committed, escaped}
+use Rattle.window.specs.Round.{rounded, committedEdges, escapedDefects}
 use Rattle.window.specs.Grow.{grown}
 use Rattle.window.specs.Merging.{merged}
 use Rattle.window.specs.declared.Window.{Window}
@@ -14,18 +14,18 @@ use Rattle.closure.specs.Closure.{Kept}
 use Rattle.law.specs.Law.{Played, Receipt}
 
 -- another window, no receipt
-abbrev pub moved : Played → Window → Played
-moved p w = record { window = w; receipts = p .receipts }
+abbrev pub withWindow : Played → Window → Played
+withWindow p w = record { window = w; receipts = p .receipts }
 
 -- a round received, with its receipt
-abbrev pub given : Table → Window → List ℕ → Receipt
-given T w bytes = record { bytes = bytes; edges = committed T w; escapes = escaped w }
+abbrev pub receiptFor : Table → Window → List ℕ → Receipt
+receiptFor T w bytes = record { bytes = bytes; edges = committedEdges T w; escapes = escapedDefects w }
 
 abbrev pub taken : Table → Played → List ℕ → Played
-taken T p bytes = record { window = rounded T (p .window) bytes; receipts = p .receipts ++ (given T (p .window) bytes ∷ []) }
+taken T p bytes = record { window = rounded T (p .window) bytes; receipts = p .receipts ++ (receiptFor T (p .window) bytes ∷ []) }
 
 -- what the rules keep, each where its call is not refused
 pub record Invariant (T : Table) (I : Played → Type 0) : Type 0 where
   pub round : (p : Played) (bytes : List ℕ) → Kept T (p .window) → isRest (p .window .stage) ≡ true → areBits bytes ≡ true → I p → I (taken T p bytes)
-  pub grow : (p : Played) → Kept T (p .window) → isToGrow (p .window .stage) ≡ true → I p → I (moved p (grown T (p .window)))
-  pub merging : (p : Played) → Kept T (p .window) → isMerging (p .window .stage) ≡ true → I p → I (moved p (merged T (p .window)))
+  pub grow : (p : Played) → Kept T (p .window) → isToGrow (p .window .stage) ≡ true → I p → I (withWindow p (grown T (p .window)))
+  pub merging : (p : Played) → Kept T (p .window) → isMerging (p .window .stage) ≡ true → I p → I (withWindow p (merged T (p .window)))

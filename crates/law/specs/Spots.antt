@@ -9,14 +9,14 @@ use lib.Dec.{leb, ltb, eqb}
 use lib.ListN.{length}
 use Rattle.shape.specs.Ranges.{Ranged, halves, both}
 use Rattle.shape.specs.Counting.{Inside}
-use Rattle.shape.specs.Steps.{Table}
-use Rattle.shape.specs.declared.Edge.{Edge}
+use Rattle.steps.specs.Steps.{Table}
+use Rattle.layers.specs.declared.Edge.{Edge}
 use Rattle.shape.specs.Nodes.{indexOf}
 use Rattle.window.specs.LawsLists.{and-no}
 use Rattle.window.specs.Window.{size}
 use Rattle.closure.specs.Lists.{choice}
 use Rattle.closure.specs.Facts.{index-within}
-use Rattle.law.specs.Law.{Played, Spot, Detector, near, far, same, ends, placeOf, height, distance, sheets, last, inWindow}
+use Rattle.law.specs.Law.{Played, Spot, Detector, nearEnd, farEnd, same, ends, placeNow, height, distance, sheets, last, inWindow}
 
 -- SPOTS
 
@@ -36,8 +36,8 @@ pub same-self : (a : Spot) → same a a ≡ true
 same-self a = both _ _ (both _ _ (eq-eqb _ (a .round) refl) (eq-eqb _ (a .row) refl)) (eq-eqb _ (a .column) refl)
 
 -- an edge ends at a: one of its two ends is there
-pub ends-at : (T : Table) (n : ℕ) (e : Edge) (a : Spot) → ends T n e a ≡ true → (near n e ≡ a) ⊎ (far T n e ≡ a)
-ends-at T n e a t = choice (same (near n e) a) (same (far T n e) a) t (λ x. inl (same-spot (near n e) a x)) (λ x. inr (same-spot (far T n e) a x))
+pub ends-at : (T : Table) (n : ℕ) (e : Edge) (a : Spot) → ends T n e a ≡ true → (nearEnd n e ≡ a) ⊎ (farEnd T n e ≡ a)
+ends-at T n e a t = choice (same (nearEnd n e) a) (same (farEnd T n e) a) t (λ x. inl (same-spot (nearEnd n e) a x)) (λ x. inr (same-spot (farEnd T n e) a x))
 
 -- THE WINDOW'S ROUNDS
 
@@ -57,8 +57,8 @@ module _ (p : Played) (n : ℕ) where
 
 -- a detector in the window
 module _ (p : Played) (a : Spot) (i : Detector p a) (l : last p - a .round < sheets p) where
-  pub spot-inside : Inside (height p) (distance p) (sheets p) (placeOf p a)
+  pub spot-inside : Inside (height p) (distance p) (sheets p) (placeNow p a)
   spot-inside = record { depth = l; row = i .row; column = omega (arith, i .east) }
 
-  pub spot-lt : Ranged (height p) (distance p) → indexOf (height p) (distance p) (placeOf p a) < size (p .window)
-  spot-lt r = index-within (height p) (distance p) r (placeOf p a) spot-inside
+  pub spot-lt : Ranged (height p) (distance p) → indexOf (height p) (distance p) (placeNow p a) < size (p .window)
+  spot-lt r = index-within (height p) (distance p) r (placeNow p a) spot-inside

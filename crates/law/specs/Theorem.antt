@@ -5,7 +5,7 @@ use mathlib.Core.Path.{_≡_, refl, subst}
 use mathlib.Core.List.{List}
 use mathlib.Core.Bool.{true}
 use Rattle.shape.specs.Sizes.{inRange}
-use Rattle.shape.specs.Steps.{Table, base}
+use Rattle.steps.specs.Steps.{Table, base}
 use Rattle.shape.specs.declared.Shape.{Shape}
 use Rattle.window.specs.Fresh.{freshWindow}
 use Rattle.window.specs.Round.{rounded}
@@ -43,7 +43,7 @@ counted T sh =
     }
 
 module _ (T : Table) (S : Suited T) (L : Layered T) where
-  law : (sh : Shape) → inRange (sh .height) (sh .distance) ≡ true → (calls : List Call) → Law T (freshWindow sh) (play T (start (freshWindow sh)) calls)
+  pub law : (sh : Shape) → inRange (sh .height) (sh .distance) ≡ true → (calls : List Call) → Law T (freshWindow sh) (play T (start (freshWindow sh)) calls)
   unfolding freshWindow
   law sh e calls =
       let p = start (freshWindow sh) in

@@ -5,10 +5,10 @@ use mathlib.Core.Bool.{true, not}
 use Rattle.shape.specs.Sizes.{sheetsOf, boundary}
 use Rattle.shape.specs.Nodes.{indexOf}
 use Rattle.shape.specs.LawsIndex.{index-place, place-index}
-use Rattle.shape.specs.Steps.{Table, step, across, slot}
-use Rattle.shape.specs.Joins.{Joins}
-use Rattle.shape.specs.Proper.{Points, Reversed, points}
-use Rattle.shape.specs.LawsStep.{across-back, joins-back, slot-back}
+use Rattle.steps.specs.Steps.{Table, step, across, slot}
+use Rattle.steps.specs.Joins.{Joins}
+use Rattle.steps.specs.Proper.{Points, Reversed, points}
+use Rattle.steps.specs.LawsStep.{across-back, joins-back, slot-back}
 use Rattle.shape.specs.declared.Place.{Place}
 use Rattle.window.specs.Window.{place, detector, to}
 use Rattle.window.specs.declared.Window.{Window}

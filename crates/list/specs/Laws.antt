@@ -7,7 +7,7 @@ use mathlib.Core.List.{List, [], _∷_, _++_}
 use borrow.Author.Tests.{lt-ltb, le-ltb, le-leb, lt-leb, eq-eqb, ne-eqb, eqb-true, ltb-true, ltb-false}
 use lib.Dec.{ltb, leb, eqb}
 use lib.ListN.{length, set, replicate, length-append, length-set}
-use Rattle.refusal.specs.Answer.{Answer, done, ended, refused, refusedAt, andThen, isDone, passed}
+use Rattle.refusal.specs.Answer.{Answer, done, ended, refused, refusedAt, andThen, isDone, withoutValue}
 use Rattle.refusal.specs.Laws.{not-done}
 use Rattle.refusal.specs.Done.{goes-on, passes, fails}
 use Rattle.number.specs.Number.{written, numberAt}
@@ -103,16 +103,16 @@ module _ (s : List ℕ) (n from at : ℕ) (entries : List ℕ) where
     pub entries-over : length entries ≤ from + k → entriesAt s (suc n) from at entries ≡ refusedAt 9 at
     entries-over h = entries-steps ∙ goes-on (onSkip s n from at entries) d ∙ fails _ _ (le-ltb (from + k) (length entries) h)
 
-  pub entries-stop : isDone (numberAt s at) ≡ false → passed (entriesAt s (suc n) from at entries) ≡ passed (numberAt s at)
-  entries-stop e = ap (λ (a : Answer (List ℕ)). passed a) entries-steps ∙ not-done (numberAt s at) (onSkip s n from at entries) e
+  pub entries-stop : isDone (numberAt s at) ≡ false → withoutValue (entriesAt s (suc n) from at entries) ≡ withoutValue (numberAt s at)
+  entries-stop e = ap (λ (a : Answer (List ℕ)). withoutValue a) entries-steps ∙ not-done (numberAt s at) (onSkip s n from at entries) e
 
 -- the same where some are left
 module _ (s : List ℕ) (left from at : ℕ) (entries : List ℕ) (l : 0 < left) where
   as-suc : entriesAt s left from at entries ≡ entriesAt s (suc (left - 1)) from at entries
   as-suc = let e : left ≡ suc (left - 1) = omega arith in ap (λ (n : ℕ). entriesAt s n from at entries) e
 
-  pub entries-turned : isDone (numberAt s at) ≡ false → passed (entriesAt s left from at entries) ≡ passed (numberAt s at)
-  entries-turned e = ap (λ (a : Answer (List ℕ)). passed a) as-suc ∙ entries-stop s (left - 1) from at entries e
+  pub entries-turned : isDone (numberAt s at) ≡ false → withoutValue (entriesAt s left from at entries) ≡ withoutValue (numberAt s at)
+  entries-turned e = ap (λ (a : Answer (List ℕ)). withoutValue a) as-suc ∙ entries-stop s (left - 1) from at entries e
 
   module _ (k next : ℕ) (d : numberAt s at ≡ done k next) where
     pub entries-more : from + k < length entries → entriesAt s left from at entries ≡ entriesAt s (left - 1) (from + k + 1) next (set entries (from + k) 1)
@@ -130,8 +130,8 @@ module _ (s : List ℕ) (size at : ℕ) where
   unfolding listAt
   list-steps = refl
 
-  pub list-turned : isDone (numberAt s at) ≡ false → passed (listAt s size at) ≡ passed (numberAt s at)
-  list-turned e = ap (λ (a : Answer (List ℕ)). passed a) list-steps ∙ not-done (numberAt s at) (onCount s size at) e
+  pub list-turned : isDone (numberAt s at) ≡ false → withoutValue (listAt s size at) ≡ withoutValue (numberAt s at)
+  list-turned e = ap (λ (a : Answer (List ℕ)). withoutValue a) list-steps ∙ not-done (numberAt s at) (onCount s size at) e
 
   module _ (n next : ℕ) (d : numberAt s at ≡ done n next) where
     pub list-counted : n ≤ size → listAt s size at ≡ entriesAt s n 0 next (replicate size 0)
@@ -142,29 +142,29 @@ module _ (s : List ℕ) (size at : ℕ) where
 
 -- how a list's reading ends depends on how many entries there are, and not on what they hold
 pub entries-alike : (s : List ℕ) (n from at : ℕ) (xs ys : List ℕ) → length xs ≡ length ys
-    → passed (entriesAt s n from at xs) ≡ passed (entriesAt s n from at ys)
+    → withoutValue (entriesAt s n from at xs) ≡ withoutValue (entriesAt s n from at ys)
 entries-alike s zero from at xs ys e = rw (entries-none s from at xs, entries-none s from at ys) refl
 entries-alike s (suc n) from at xs ys e = go (numberAt s at) refl (λ k next. entries-alike s n (from + k + 1) next (set xs (from + k) 1) (set ys (from + k) 1) (length-set xs (from + k) 1 ∙ e ∙ sym (length-set ys (from + k) 1)))
   where
-    stops : isDone (numberAt s at) ≡ false → passed (entriesAt s (suc n) from at xs) ≡ passed (entriesAt s (suc n) from at ys)
+    stops : isDone (numberAt s at) ≡ false → withoutValue (entriesAt s (suc n) from at xs) ≡ withoutValue (entriesAt s (suc n) from at ys)
     stops b = entries-stop s n from at xs b ∙ sym (entries-stop s n from at ys b)
 
     inside : (k next : ℕ) → numberAt s at ≡ done k next → (b : Bool) → ltb (from + k) (length xs) ≡ b
-        → passed (entriesAt s n (from + k + 1) next (set xs (from + k) 1)) ≡ passed (entriesAt s n (from + k + 1) next (set ys (from + k) 1))
-        → passed (entriesAt s (suc n) from at xs) ≡ passed (entriesAt s (suc n) from at ys)
+        → withoutValue (entriesAt s n (from + k + 1) next (set xs (from + k) 1)) ≡ withoutValue (entriesAt s n (from + k + 1) next (set ys (from + k) 1))
+        → withoutValue (entriesAt s (suc n) from at xs) ≡ withoutValue (entriesAt s (suc n) from at ys)
     inside k next d true t r =
         let h : from + k < length xs = ltb-true _ _ t in
-        ap (λ (a : Answer (List ℕ)). passed a) (entries-step s n from at xs k next d h)
+        ap (λ (a : Answer (List ℕ)). withoutValue a) (entries-step s n from at xs k next d h)
         ∙ r
-        ∙ sym (ap (λ (a : Answer (List ℕ)). passed a) (entries-step s n from at ys k next d (omega (arith, e))))
+        ∙ sym (ap (λ (a : Answer (List ℕ)). withoutValue a) (entries-step s n from at ys k next d (omega (arith, e))))
     inside k next d false t r =
         let h : length xs ≤ from + k = ltb-false _ _ t in
-        ap (λ (a : Answer (List ℕ)). passed a) (entries-over s n from at xs k next d h)
-        ∙ sym (ap (λ (a : Answer (List ℕ)). passed a) (entries-over s n from at ys k next d (omega (arith, e))))
+        ap (λ (a : Answer (List ℕ)). withoutValue a) (entries-over s n from at xs k next d h)
+        ∙ sym (ap (λ (a : Answer (List ℕ)). withoutValue a) (entries-over s n from at ys k next d (omega (arith, e))))
 
     go : (a : Answer ℕ) → numberAt s at ≡ a
-        → ((k next : ℕ) → passed (entriesAt s n (from + k + 1) next (set xs (from + k) 1)) ≡ passed (entriesAt s n (from + k + 1) next (set ys (from + k) 1)))
-        → passed (entriesAt s (suc n) from at xs) ≡ passed (entriesAt s (suc n) from at ys)
+        → ((k next : ℕ) → withoutValue (entriesAt s n (from + k + 1) next (set xs (from + k) 1)) ≡ withoutValue (entriesAt s n (from + k + 1) next (set ys (from + k) 1)))
+        → withoutValue (entriesAt s (suc n) from at xs) ≡ withoutValue (entriesAt s (suc n) from at ys)
     go (done k next) d r = inside k next d (ltb (from + k) (length xs)) refl (r k next)
     go ended d r = stops (ap (λ (a : Answer ℕ). isDone a) d)
     go (refused m) d r = stops (ap (λ (a : Answer ℕ). isDone a) d)

@@ -4,8 +4,8 @@ use mathlib.Core.Bool.{Bool, true, false}
 use mathlib.Core.List.{List, [], _∷_, _++_}
 use lib.Dec.{ltb, leb, eqb}
 use lib.ListN.{length, set, replicate}
-use Rattle.refusal.specs.Answer.{Answer, done, refusedAt, turned, andThen, passed, valueOr, itself}
-use Rattle.refusal.specs.Writing.{Left, left, writing}
+use Rattle.refusal.specs.Answer.{Answer, done, refusedAt, turned, andThen, withoutValue, valueOr, itself}
+use Rattle.refusal.specs.Writing.{Buffered, buffered, writing}
 use Rattle.number.specs.Number.{written, numberAt, inSlice}
 use Rattle.list.specs.declared.Listed.{Listed}
 use Rattle.list.specs.declared.Listed.the-variants.{To, Refused}
@@ -46,25 +46,25 @@ listAt s size at =
 
 -- THE CALLS
 
-abbrev pub told : Listed → Answer (Unit {0})
-told (To next) = done tt next
-told (Refused f) = turned f
+abbrev pub listAnswer : Listed → Answer (Unit {0})
+listAnswer (To next) = done tt next
+listAnswer (Refused f) = turned f
 
 -- a list's answer with its buffer
-abbrev pub toldRead : Listed → List ℕ → Left
-toldRead r buffer = left (told r) buffer
+abbrev pub listBuffered : Listed → List ℕ → Buffered
+listBuffered r buffer = buffered (listAnswer r) buffer
 
 -- a buffer takes what is done, and stays as it was where nothing is
-abbrev pub into : Answer (List ℕ) → List ℕ → Left
-into a old = left (passed a) (valueOr a itself old)
+abbrev pub readInto : Answer (List ℕ) → List ℕ → Buffered
+readInto a old = buffered (withoutValue a) (valueOr a itself old)
 
-abbrev pub readList : List ℕ → ℕ → List ℕ → Left
-readList s at old = into (listAt s (length old) at) old
+abbrev pub readList : List ℕ → ℕ → List ℕ → Buffered
+readList s at old = readInto (listAt s (length old) at) old
 
 -- each byte is 0 or 1
 unfoldable pub areBits : List ℕ → Bool
 areBits [] = true
 areBits (x ∷ xs) = elim (leb x 1) [ true ↦ areBits xs | false ↦ false ]
 
-abbrev pub writeList : List ℕ → List ℕ → ℕ → Left
+abbrev pub writeList : List ℕ → List ℕ → ℕ → Buffered
 writeList entries old at = writing (inSlice old at ∷ (areBits entries, 4) ∷ []) old at (listed entries)

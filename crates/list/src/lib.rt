@@ -1,13 +1,12 @@
 // Sheet lists: one byte an entry, 0 or 1, in a buffer; in a stream the count of set entries and the entries skipped before each.
+// Here is their reader.
 ghost use mathlib.Core.Path.{_≡_};
 ghost use mathlib.Core.Bool.{true};
 ghost use lib.ListN.{length, replicate};
-ghost use Rattle.refusal.specs.Answer.{isDone, passed, valueOr, itself};
-ghost use Rattle.refusal.specs.Writing.{front, putTo};
-ghost use Rattle.number.specs.Number.{told as toldNumber, toldWrote};
-ghost use Rattle.list.specs.Sheet.{told, toldRead, listAt, readList, ones as onesOf, listed as listedOf, areBits, writeList};
+ghost use Rattle.refusal.specs.Answer.{isDone, withoutValue, valueOr, itself};
+ghost use Rattle.number.specs.Number.{numberAnswer};
+ghost use Rattle.list.specs.Sheet.{listAnswer, listBuffered, listAt, readList};
 use number::Read;
-use number::Wrote;
 use refusal::Refusal;
 
 // What reading a list finds: the offset behind it, or why it is refused.
@@ -18,7 +17,7 @@ pub enum Listed {
 
 // A number's answer as a list's.
 fn as_listed(r: Read) -> Listed
-    ensures { λ l. ⌜ told l ≡ passed (toldNumber r) ⌝ }
+    ensures { λ l. ⌜ listAnswer l ≡ withoutValue (numberAnswer r) ⌝ }
 {
     match r {
         Read::Number(_, next) => Listed::To(next),
@@ -28,7 +27,7 @@ fn as_listed(r: Read) -> Listed
 
 // Reads the list of size entries at an offset, and stores nothing.
 pub fn scan_list(src: &[u8], at: usize, size: usize) -> Listed
-    ensures { λ r. ⌜ told r ≡ passed (listAt (now (src .entry)) size at) ⌝ }
+    ensures { λ r. ⌜ listAnswer r ≡ withoutValue (listAt (now (src .entry)) size at) ⌝ }
 {
     let count = number::read_number(src, at);
     let Read::Number(n, first) = count else {
@@ -94,7 +93,7 @@ fn store_list(src: &[u8], at: usize, out: &mut [u8])
 
 // Reads a list of as many entries as the buffer has bytes. Nothing is stored before all of it has been read.
 pub fn read_list(src: &[u8], at: usize, out: &mut [u8]) -> Listed
-    ensures { λ r. ⌜ toldRead r (now (out .exit)) ≡ readList (now (src .entry)) at (now (out .entry)) ⌝ }
+    ensures { λ r. ⌜ listBuffered r (now (out .exit)) ≡ readList (now (src .entry)) at (now (out .entry)) ⌝ }
 {
     let scanned = scan_list(src, at, out.len());
     let Listed::To(next) = scanned else {
@@ -102,94 +101,4 @@ pub fn read_list(src: &[u8], at: usize, out: &mut [u8]) -> Listed
     };
     store_list(src, at, out);
     Listed::To(next)
-}
-
-// How many entries are set.
-fn ones(entries: &[u8]) -> u64
-    ensures { λ r. ⌜ r ≡ onesOf (now (entries .entry)) ⌝ }
-{
-    let mut count: u64 = 0;
-    let mut j = 0;
-    while j < entries.len() {
-        let entry = entries[j];
-        j += 1;
-        if entry == 1 {
-            count += 1;
-        }
-    }
-    count
-}
-
-// How many bytes a list has in a stream.
-pub fn list_len(entries: &[u8]) -> usize
-    ensures { λ r. ⌜ r ≡ length (listedOf (now (entries .entry))) ⌝ }
-{
-    let mut count = number::number_len(ones(entries));
-    let mut skipped: u64 = 0;
-    let mut j = 0;
-    while j < entries.len() {
-        let entry = entries[j];
-        j += 1;
-        if entry == 1 {
-            count += number::number_len(skipped);
-            skipped = 0;
-        } else {
-            skipped += 1;
-        }
-    }
-    count
-}
-
-// Writes a list at the front of a buffer and answers its bytes; 0, and nothing written, where it has no room.
-pub fn put_list(entries: &[u8], out: &mut [u8]) -> usize
-    ensures { λ r. ⌜ putTo r (now (out .exit)) ≡ front (now (out .entry)) (listedOf (now (entries .entry))) ⌝ }
-{
-    if out.len() < list_len(entries) {
-        return 0;
-    }
-    let mut i = number::put_number(ones(entries), out);
-    let mut skipped: u64 = 0;
-    let mut j = 0;
-    while j < entries.len() {
-        let entry = entries[j];
-        j += 1;
-        if entry == 1 {
-            i += number::put_number(skipped, &mut out[i..]);
-            skipped = 0;
-        } else {
-            skipped += 1;
-        }
-    }
-    i
-}
-
-// Each byte is 0 or 1.
-pub fn are_bits(entries: &[u8]) -> bool
-    ensures { λ r. ⌜ r ≡ areBits (now (entries .entry)) ⌝ }
-{
-    let mut j = 0;
-    while j < entries.len() {
-        if 1 < entries[j] {
-            return false;
-        }
-        j += 1;
-    }
-    true
-}
-
-// Writes a list from an offset on.
-pub fn write_list(entries: &[u8], out: &mut [u8], at: usize) -> Wrote
-    ensures { λ r. ⌜ toldWrote r (now (out .exit)) ≡ writeList (now (entries .entry)) (now (out .entry)) at ⌝ }
-{
-    if out.len() < at {
-        return Wrote::Not(Refusal::Offset);
-    }
-    if !are_bits(entries) {
-        return Wrote::Not(Refusal::Byte);
-    }
-    let count = put_list(entries, &mut out[at..]);
-    if count == 0 {
-        return Wrote::Not(Refusal::Room);
-    }
-    Wrote::To(at + count)
 }

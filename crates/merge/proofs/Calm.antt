@@ -11,10 +11,10 @@ use Rattle.shape.specs.Choice.{tell}
 use Rattle.shape.specs.Sizes.{sheetsOf, boundary, nodesOf}
 use Rattle.shape.specs.Ranges.{nodes-of}
 use Rattle.shape.specs.Nodes.{numberOf}
-use Rattle.shape.specs.Proper.{proper-base}
-use Rattle.shape.specs.Steps.{base, step, near}
+use Rattle.steps.specs.Proper.{proper-base}
+use Rattle.steps.specs.Steps.{base, step, near}
 use Rattle.shape.specs.LawsIndex.{index-lt}
-use Rattle.shape.specs.LawsStep.{near-inside}
+use Rattle.steps.specs.LawsStep.{near-inside}
 use Rattle.shape.specs.declared.Found.{Found}
 use Rattle.shape.specs.declared.Found.the-variants.{At, Nowhere}
 use Rattle.shape.specs.declared.Place.{Place}

@@ -14,7 +14,7 @@ use Rattle.shape.specs.Ranges.{both, in-range, nodes-of}
 use Rattle.shape.specs.Nodes.{numberOf, placeAt, isIndex, indexedIn}
 use Rattle.shape.specs.declared.Found.{Found}
 use Rattle.shape.specs.declared.Found.the-variants.{At, Nowhere}
-use Rattle.shape.specs.Steps.{base, step, here}
+use Rattle.steps.specs.Steps.{base, step, here}
 use Rattle.shape.specs.declared.Place.{Place}
 use Rattle.window.specs.Lists.{byPlace, over, any}
 use Rattle.window.specs.LawsLists.{getD-by, over-all}
@@ -33,20 +33,6 @@ use Rattle.walk.specs.LawsWalk.{three-kinds, slot-at, peopled}
 pub six-steps : length (base .steps) ≡ 6
 unfolding base
 six-steps = refl
-
-backs : (k : ℕ) → k < 6 → getD (4 ∷ 3 ∷ 2 ∷ 1 ∷ 6 ∷ 5 ∷ []) k 0 ≡ getD (base .steps) k here .back
-unfolding base
-backs zero l = refl
-backs (suc zero) l = refl
-backs (suc (suc zero)) l = refl
-backs (suc (suc (suc zero))) l = refl
-backs (suc (suc (suc (suc zero)))) l = refl
-backs (suc (suc (suc (suc (suc zero))))) l = refl
-backs (suc (suc (suc (suc (suc (suc k)))))) l = absurd (omega arith)
-
--- the direction back
-pub back-of : (k : ℕ) → k < 6 → getD (4 ∷ 3 ∷ 2 ∷ 1 ∷ 6 ∷ 5 ∷ []) k 0 ≡ step base (k + 1) .back
-back-of k l = rw (add-one k) (backs k l)
 
 -- THE PLACE of a node of the window
 
@@ -67,10 +53,10 @@ module _ (h d g : ℕ) (f : Found) (l : g < nodesOf h d) (e : f ≡ indexedIn h 
 -- ONE NODE
 
 module _ (w : Window) (g : ℕ) (q : Place) (e : q ≡ place w g) where
-  pub seen-by : (k : ℕ) (y : Way) → k < 6 → y ≡ reach base (w .shape .height) (w .shape .distance) (sheetsOf (w .shape .distance)) (k + 1) q
-      → sees y (getD (w .growth) (y .slot) 0) (at w (y .node)) (getD (4 ∷ 3 ∷ 2 ∷ 1 ∷ 6 ∷ 5 ∷ []) k 0) ≡ seen base w g k
+  pub seen-by : (k back : ℕ) (y : Way) → y ≡ reach base (w .shape .height) (w .shape .distance) (sheetsOf (w .shape .distance)) (k + 1) q
+      → back ≡ step base (k + 1) .back → sees y (getD (w .growth) (y .slot) 0) (at w (y .node)) back ≡ seen base w g k
   unfolding seen
-  seen-by k y l f = rw (back-of k l, f, e)
+  seen-by k back y f b = rw (b, f, e)
 
   module _ (b : Bool) (d : b ≡ boundary (w .shape .distance) (q .column)) (ss : List Seen) (s : ss ≡ byPlace 6 (seen base w g)) where
     pub step-by : stepped (numberOf (w .shape .height) (w .shape .distance) q) (not b) (at w g) ss ≡ stepAt base w g

@@ -2,27 +2,13 @@
 use shape::Found;
 use shape::Place;
 use shape::Shape;
-use window::Stage;
 use window::Window;
 ghost use mathlib.Core.Path.{_≡_};
-ghost use Rattle.shape.specs.Choice.{if};
 ghost use Prim.Native.Nat.{_<_};
 ghost use Rattle.shape.specs.Nodes.{placeAt};
 ghost use Rattle.shape.specs.Sizes.{nodesOf};
-ghost use Rattle.shape.specs.Steps.{base};
+ghost use Rattle.steps.specs.Steps.{base};
 ghost use Rattle.window.specs.Merging.{merged};
-ghost use Rattle.window.specs.declared.Stage.the-variants as stage;
-
-const BACK: [u8; 6] = [4, 3, 2, 1, 6, 5];
-
-fn stage_after(busy: bool) -> Stage
-    ensures { λ r. ⌜ r ≡ if busy stage.Merging stage.Rest ⌝ }
-{
-    if busy {
-        return Stage::Merging;
-    }
-    Stage::Rest
-}
 
 // The place of a node of the window.
 fn place_at(shape: Shape, g: usize) -> Place
@@ -58,7 +44,7 @@ pub fn merge(w: Window) -> Window
             continue 'nodes;
         }
         let place = place_at(shape, g);
-        let mut seen = [node::nothing(); 6];
+        let mut seen = [edge::nothing(); 6];
         let mut k: u8 = 0;
         'look: while k < 6 {
             let way = walk::reach(shape, k + 1, place, g);
@@ -66,7 +52,7 @@ pub fn merge(w: Window) -> Window
             let other = old[j];
             let slot = way.slot;
             let growth = w.growth[slot];
-            seen[k as usize] = node::look(way, growth, other, BACK[k as usize]);
+            seen[k as usize] = edge::look(way, growth, other, steps::back(k + 1));
             k += 1;
         }
         let detector = !shape::is_boundary(shape, place.column);
@@ -76,15 +62,15 @@ pub fn merge(w: Window) -> Window
         nodes[g] = x;
         busy = busy | r.busy;
         let e = 3 * g;
-        correction[e] = node::flip(w.correction[e], detector, node, 3, seen[2]);
-        correction[e + 1] = node::flip(w.correction[e + 1], detector, node, 4, seen[3]);
-        correction[e + 2] = node::flip(w.correction[e + 2], detector, node, 6, seen[5]);
+        correction[e] = edge::flip(w.correction[e], detector, node, 3, seen[2]);
+        correction[e + 1] = edge::flip(w.correction[e + 1], detector, node, 4, seen[3]);
+        correction[e + 2] = edge::flip(w.correction[e + 2], detector, node, 6, seen[5]);
         g += 1;
     }
     let growth = w.growth;
     Window {
         shape,
-        stage: stage_after(busy),
+        stage: node::stage_after(busy),
         next: w.next,
         nodes,
         growth,

@@ -1,1 +1,1 @@
-pub mod Directions
+pub mod Syncing

@@ -5,7 +5,7 @@ use mathlib.Core.List.{List, [], _∷_}
 use lib.Dec.{ltb, leb, eqb}
 use lib.ListN.{length, getD}
 use Rattle.refusal.specs.Answer.{Answer, done, refusedAt, turned, unless}
-use Rattle.refusal.specs.Writing.{Left, left, writing}
+use Rattle.refusal.specs.Writing.{Buffered, buffered, writing}
 use Rattle.number.specs.declared.Read.{Read}
 use Rattle.number.specs.declared.Read.the-variants.{Number, Refused}
 use Rattle.number.specs.declared.Wrote.{Wrote}
@@ -44,13 +44,13 @@ lastGroup first weight sum x next =
 -- 7: no byte is left; 8: all groups are used up
 unfoldable pub groupAt : List ℕ → ℕ → ℕ → ℕ → ℕ → ℕ → Answer ℕ
 groupAt s first zero weight sum at = refusedAt 8 first
-groupAt s first (suc left) weight sum at =
+groupAt s first (suc buffered) weight sum at =
     elim (ltb at (length s)) [
       | false ↦ refusedAt 7 first
       | true ↦ let x = getD s at 0 in
           elim (ltb x 128) [
             | true ↦ lastGroup first weight sum x (at + 1)
-            | false ↦ groupAt s first left (weight * 128) (sum + weight * (x - 128)) (at + 1)
+            | false ↦ groupAt s first buffered (weight * 128) (sum + weight * (x - 128)) (at + 1)
           ]
     ]
 
@@ -65,17 +65,17 @@ numberAt s at = unless (inSlice s at ∷ []) (groupAt s at most 1 0 at)
 
 -- THE CALLS
 
-abbrev pub told : Read → Answer ℕ
-told (Number n next) = done n next
-told (Refused f) = turned f
+abbrev pub numberAnswer : Read → Answer ℕ
+numberAnswer (Number n next) = done n next
+numberAnswer (Refused f) = turned f
 
-abbrev pub toldTo : Wrote → Answer (Unit {0})
-toldTo (To next) = done tt next
-toldTo (Not f) = turned f
+abbrev pub writtenAnswer : Wrote → Answer (Unit {0})
+writtenAnswer (To next) = done tt next
+writtenAnswer (Not f) = turned f
 
 -- a writer's answer with its buffer
-abbrev pub toldWrote : Wrote → List ℕ → Left
-toldWrote w buffer = left (toldTo w) buffer
+abbrev pub writtenBuffered : Wrote → List ℕ → Buffered
+writtenBuffered w buffer = buffered (writtenAnswer w) buffer
 
-abbrev pub writeNumber : ℕ → List ℕ → ℕ → Left
+abbrev pub writeNumber : ℕ → List ℕ → ℕ → Buffered
 writeNumber n old at = writing (inSlice old at ∷ []) old at (written n)

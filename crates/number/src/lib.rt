@@ -3,7 +3,7 @@ ghost use mathlib.Core.Path.{_≡_};
 ghost use Prim.Native.Nat.{_≤_, _<_};
 ghost use lib.ListN.{length};
 ghost use Rattle.refusal.specs.Writing.{front, putTo};
-ghost use Rattle.number.specs.Number.{told, toldWrote, numberAt, lastGroup, written as writtenOf, writeNumber};
+ghost use Rattle.number.specs.Number.{numberAnswer, writtenBuffered, numberAt, lastGroup, written as writtenOf, writeNumber};
 use refusal::Refusal;
 
 // What reading a number finds: its value and the offset behind it, or why it is refused.
@@ -27,7 +27,7 @@ fn wide(x: u8) -> u64
 // The number whose last group is x, after groups that come to sum; first is where the number begins.
 fn last_group(first: usize, weight: u64, sum: u64, x: u64, next: usize) -> Read
     requires { ⌜ (weight ≤ 268435456) × (sum < weight) × (x < 128) ⌝ }
-    ensures { λ r. ⌜ told r ≡ lastGroup first weight sum x next ⌝ }
+    ensures { λ r. ⌜ numberAnswer r ≡ lastGroup first weight sum x next ⌝ }
 {
     let value = sum + weight * x;
     if (1 < weight) & (x == 0) {
@@ -41,7 +41,7 @@ fn last_group(first: usize, weight: u64, sum: u64, x: u64, next: usize) -> Read
 
 // The number at an offset.
 pub fn read_number(src: &[u8], at: usize) -> Read
-    ensures { λ r. ⌜ told r ≡ numberAt (now (src .entry)) at ⌝ }
+    ensures { λ r. ⌜ numberAnswer r ≡ numberAt (now (src .entry)) at ⌝ }
 {
     if src.len() < at {
         return Read::Refused(Refusal::Offset);
@@ -99,7 +99,7 @@ pub fn put_number(n: u64, out: &mut [u8]) -> usize
 
 // Writes a number from an offset on.
 pub fn write_number(n: u32, out: &mut [u8], at: usize) -> Wrote
-    ensures { λ r. ⌜ toldWrote r (now (out .exit)) ≡ writeNumber n (now (out .entry)) at ⌝ }
+    ensures { λ r. ⌜ writtenBuffered r (now (out .exit)) ≡ writeNumber n (now (out .entry)) at ⌝ }
 {
     if out.len() < at {
         return Wrote::Not(Refusal::Offset);

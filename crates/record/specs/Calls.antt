@@ -5,11 +5,11 @@ use mathlib.Core.List.{List, [], _∷_, _++_}
 use lib.Dec.{leb, eqb}
 use lib.ListN.{length}
 use Rattle.refusal.specs.Answer.{Answer, done, ended, turned, unless, andThen, valueOr}
-use Rattle.refusal.specs.Writing.{Left, writing}
-use Rattle.list.specs.Sheet.{listed, areBits, into}
+use Rattle.refusal.specs.Writing.{Buffered, writing}
+use Rattle.list.specs.Sheet.{listed, areBits, readInto}
 use Rattle.shape.specs.Sizes.{shapeTests, detectorsOf, layerEdgesOf}
 use Rattle.shape.specs.declared.Shape.{Shape}
-use Rattle.record.specs.Records.{header, roundAt, Result, edgesOf, escapesOf, result, resultAt}
+use Rattle.record.specs.Records.{header, roundAt, Result, resultEdges, resultEscapes, result, resultAt}
 use Rattle.record.specs.declared.HeaderRead.{HeaderRead}
 use Rattle.record.specs.declared.HeaderRead.the-variants as headerRead
 use Rattle.record.specs.declared.RoundRead.{RoundRead}
@@ -19,19 +19,19 @@ use Rattle.record.specs.declared.ResultRead.the-variants as resultRead
 
 -- THE ANSWERS
 
-abbrev pub toldHeader : HeaderRead → Answer Shape
-toldHeader (headerRead.Shape sh next) = done sh next
-toldHeader (headerRead.Refused f) = turned f
+abbrev pub headerAnswer : HeaderRead → Answer Shape
+headerAnswer (headerRead.Shape sh next) = done sh next
+headerAnswer (headerRead.Refused f) = turned f
 
-abbrev pub toldRound : RoundRead → Answer (Unit {0})
-toldRound (roundRead.To next) = done tt next
-toldRound roundRead.End = ended
-toldRound (roundRead.Refused f) = turned f
+abbrev pub roundAnswer : RoundRead → Answer (Unit {0})
+roundAnswer (roundRead.To next) = done tt next
+roundAnswer roundRead.End = ended
+roundAnswer (roundRead.Refused f) = turned f
 
-abbrev pub toldResult : ResultRead → Answer ℕ
-toldResult (resultRead.Steps steps next) = done steps next
-toldResult resultRead.End = ended
-toldResult (resultRead.Refused f) = turned f
+abbrev pub resultAnswer : ResultRead → Answer ℕ
+resultAnswer (resultRead.Steps steps next) = done steps next
+resultAnswer resultRead.End = ended
+resultAnswer (resultRead.Refused f) = turned f
 
 -- THE TESTS, in the document's order
 
@@ -53,47 +53,47 @@ escapesTest sh escapes = (eqb (length escapes) (detectorsOf (sh .height) (sh .di
 
 -- THE HEADER
 
-abbrev pub writeHeader : Shape → List ℕ → ℕ → Left
+abbrev pub writeHeader : Shape → List ℕ → ℕ → Buffered
 writeHeader sh old at = writing (placeTests sh (length old) at) old at (header sh)
 
 -- A ROUND OF THE INPUT
 
-abbrev pub readRound : Shape → List ℕ → ℕ → List ℕ → Left
+abbrev pub readRound : Shape → List ℕ → ℕ → List ℕ → Buffered
 readRound sh s at old =
-    into (unless (placeTests sh (length s) at ++ (defectsTest sh old ∷ [])) (roundAt s (detectorsOf (sh .height) (sh .distance)) at)) old
+    readInto (unless (placeTests sh (length s) at ++ (defectsTest sh old ∷ [])) (roundAt s (detectorsOf (sh .height) (sh .distance)) at)) old
 
-abbrev pub writeRound : Shape → List ℕ → List ℕ → ℕ → Left
+abbrev pub writeRound : Shape → List ℕ → List ℕ → ℕ → Buffered
 writeRound sh defects old at =
     writing (placeTests sh (length old) at ++ (defectsTest sh defects ∷ (areBits defects, 4) ∷ [])) old at (listed defects)
 
 -- A ROUND OF THE RESULT
 
 -- what its reader leaves: the steps, and both buffers
-pub record Committed : Type 0 where
+pub record ResultBuffered : Type 0 where
   pub answer : Answer ℕ
   pub edges : List ℕ
   pub escapes : List ℕ
 
-abbrev pub committed : Answer ℕ → List ℕ → List ℕ → Committed
-committed a edges escapes = record { answer = a; edges = edges; escapes = escapes }
+abbrev pub resultBuffered : Answer ℕ → List ℕ → List ℕ → ResultBuffered
+resultBuffered a edges escapes = record { answer = a; edges = edges; escapes = escapes }
 
 -- the steps of a round of the result
 abbrev pub stepsOf : Answer Result → Answer ℕ
 stepsOf a = andThen a (λ r next. done (r .steps) next)
 
 -- the buffers take what is done, and stay as they were where nothing is
-abbrev pub intoBoth : Answer Result → List ℕ → List ℕ → Committed
-intoBoth a edges escapes = committed (stepsOf a) (valueOr a edgesOf edges) (valueOr a escapesOf escapes)
+abbrev pub readIntoBoth : Answer Result → List ℕ → List ℕ → ResultBuffered
+readIntoBoth a edges escapes = resultBuffered (stepsOf a) (valueOr a resultEdges edges) (valueOr a resultEscapes escapes)
 
-abbrev pub readResult : Shape → List ℕ → ℕ → List ℕ → List ℕ → Committed
+abbrev pub readResult : Shape → List ℕ → ℕ → List ℕ → List ℕ → ResultBuffered
 readResult sh s at edges escapes =
-    intoBoth
+    readIntoBoth
     (unless (placeTests sh (length s) at ++ (edgesTest sh edges ∷ escapesTest sh escapes ∷ []))
     (resultAt s (layerEdgesOf (sh .height) (sh .distance)) (detectorsOf (sh .height) (sh .distance)) at))
     edges
     escapes
 
-abbrev pub writeResult : Shape → Result → List ℕ → ℕ → Left
+abbrev pub writeResult : Shape → Result → List ℕ → ℕ → Buffered
 writeResult sh r old at =
     writing
     (placeTests sh (length old) at

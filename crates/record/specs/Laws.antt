@@ -6,20 +6,20 @@ use mathlib.Core.List.{List, [], _∷_, _++_}
 use lib.ListN.{length, length-append}
 use native.Mathlib.Omega.{arith}
 use borrow.Author.Tests.{lt-ltb, le-ltb}
-use Rattle.refusal.specs.Writing.{left}
-use Rattle.refusal.specs.Answer.{Answer, done, ended, refused, refusedAt, turned, andThen, passed, isDone, valueOr, itself}
+use Rattle.refusal.specs.Writing.{buffered}
+use Rattle.refusal.specs.Answer.{Answer, done, ended, refused, refusedAt, turned, andThen, withoutValue, isDone, valueOr, itself}
 use Rattle.refusal.specs.Laws.{turned-as, turned-on, turned-not, turned-passed, done-is, value-not}
 use Rattle.refusal.specs.Tests.{Turned}
 use Rattle.refusal.specs.Done.{goes-on, went, passes, fails}
 use Rattle.refusal.specs.declared.Refusal.{Refusal}
 use Rattle.number.specs.Number.{written, numberAt}
 use Rattle.number.specs.Laws.{length-written}
-use Rattle.list.specs.Sheet.{listed, listAt, into}
+use Rattle.list.specs.Sheet.{listed, listAt, readInto}
 use Rattle.list.specs.Laws.{length-listed}
 use Rattle.shape.specs.Sizes.{heightOk, distanceOk, detectorsOf, layerEdgesOf}
 use Rattle.shape.specs.declared.Shape.{Shape}
-use Rattle.record.specs.Records.{header, headerFrom, headerAt, unlessEnded, Result, result, resultFrom, resultAt, roundAt, edgesOf, escapesOf}
-use Rattle.record.specs.Calls.{placeTests, defectsTest, edgesTest, escapesTest, readRound, committed, intoBoth, readResult, stepsOf}
+use Rattle.record.specs.Records.{header, headerFrom, headerAt, unlessEnded, Result, result, resultFrom, resultAt, roundAt, resultEdges, resultEscapes}
+use Rattle.record.specs.Calls.{placeTests, defectsTest, edgesTest, escapesTest, readRound, resultBuffered, readIntoBoth, readResult, stepsOf}
 
 -- THE HEADER
 
@@ -108,11 +108,11 @@ module _ (s : List ℕ) (edges detectors at : ℕ) where
   unfolding resultFrom
   result-steps = refl
 
-  pub edges-turned : (f : Refusal) → passed (listAt s edges at) ≡ turned f → resultFrom s edges detectors at ≡ turned f
+  pub edges-turned : (f : Refusal) → withoutValue (listAt s edges at) ≡ turned f → resultFrom s edges detectors at ≡ turned f
   edges-turned f e = result-steps ∙ turned-on (listAt s edges at) f (onEdges s detectors) e
 
   module _ (committed : List ℕ) (next : ℕ) (e : listAt s edges at ≡ done committed next) where
-    pub escapes-turned : (f : Refusal) → passed (listAt s detectors next) ≡ turned f → resultFrom s edges detectors at ≡ turned f
+    pub escapes-turned : (f : Refusal) → withoutValue (listAt s detectors next) ≡ turned f → resultFrom s edges detectors at ≡ turned f
     escapes-turned f k = result-steps ∙ goes-on (onEdges s detectors) e ∙ turned-on (listAt s detectors next) f (onEscapes s committed) k
 
     module _ (escaped : List ℕ) (last : ℕ) (k : listAt s detectors next ≡ done escaped last) where
@@ -158,19 +158,19 @@ result-parts s edges detectors at h =
 
 -- BUFFERS AFTER A READING
 
-pub into-turned : (f : Refusal) (old : List ℕ) → left (turned f) old ≡ into (turned f) old
+pub into-turned : (f : Refusal) (old : List ℕ) → buffered (turned f) old ≡ readInto (turned f) old
 into-turned f old =
-    ap (λ (a : Answer (Unit {0})). left a old) (sym (turned-passed (List ℕ) f))
-    ∙ ap (λ (l : List ℕ). left (passed (turned {A = List ℕ} f)) l) (sym (value-not (turned f) itself old (turned-not (List ℕ) f)))
+    ap (λ (a : Answer (Unit {0})). buffered a old) (sym (turned-passed (List ℕ) f))
+    ∙ ap (λ (l : List ℕ). buffered (withoutValue (turned {A = List ℕ} f)) l) (sym (value-not (turned f) itself old (turned-not (List ℕ) f)))
 
-pub both-not : (a : Answer Result) (edges escapes : List ℕ) → isDone a ≡ false → committed (stepsOf a) edges escapes ≡ intoBoth a edges escapes
+pub both-not : (a : Answer Result) (edges escapes : List ℕ) → isDone a ≡ false → resultBuffered (stepsOf a) edges escapes ≡ readIntoBoth a edges escapes
 both-not a edges escapes e =
-    ap (λ (l : List ℕ). committed (stepsOf a) l escapes) (sym (value-not a edgesOf edges e))
-    ∙ ap (λ (l : List ℕ). committed (stepsOf a) (valueOr a edgesOf edges) l) (sym (value-not a escapesOf escapes e))
+    ap (λ (l : List ℕ). resultBuffered (stepsOf a) l escapes) (sym (value-not a resultEdges edges e))
+    ∙ ap (λ (l : List ℕ). resultBuffered (stepsOf a) (valueOr a resultEdges edges) l) (sym (value-not a resultEscapes escapes e))
 
-pub both-turned : (f : Refusal) (edges escapes : List ℕ) → committed (turned f) edges escapes ≡ intoBoth (turned f) edges escapes
+pub both-turned : (f : Refusal) (edges escapes : List ℕ) → resultBuffered (turned f) edges escapes ≡ readIntoBoth (turned f) edges escapes
 both-turned f edges escapes =
-    ap (λ (a : Answer ℕ). committed a edges escapes) (sym (turned-as {A = Result} f (λ r next. done (r .steps) next))) ∙ both-not (turned f) edges escapes (turned-not Result f)
+    ap (λ (a : Answer ℕ). resultBuffered a edges escapes) (sym (turned-as {A = Result} f (λ r next. done (r .steps) next))) ∙ both-not (turned f) edges escapes (turned-not Result f)
 
 pub done-steps : (a : Answer Result) → isDone (stepsOf a) ≡ isDone a
 done-steps (done r next) = refl
@@ -180,14 +180,14 @@ done-steps (refusedAt n at) = refl
 
 -- a round that a test turns back
 pub round-turned : (sh : Shape) (s : List ℕ) (at : ℕ) (old : List ℕ) (f : Refusal) → Turned (placeTests sh (length s) at ++ (defectsTest sh old ∷ [])) f
-    → left (turned f) old ≡ readRound sh s at old
+    → buffered (turned f) old ≡ readRound sh s at old
 round-turned sh s at old f h =
-    into-turned f old ∙ sym (ap (λ (a : Answer (List ℕ)). into a old) (h (List ℕ) (roundAt s (detectorsOf (sh .height) (sh .distance)) at)))
+    into-turned f old ∙ sym (ap (λ (a : Answer (List ℕ)). readInto a old) (h (List ℕ) (roundAt s (detectorsOf (sh .height) (sh .distance)) at)))
 
 pub result-turned : (sh : Shape) (s : List ℕ) (at : ℕ) (edges escapes : List ℕ) (f : Refusal)
     → Turned (placeTests sh (length s) at ++ (edgesTest sh edges ∷ escapesTest sh escapes ∷ [])) f
-    → committed (turned f) edges escapes ≡ readResult sh s at edges escapes
+    → resultBuffered (turned f) edges escapes ≡ readResult sh s at edges escapes
 result-turned sh s at edges escapes f h =
     both-turned f edges escapes
-    ∙ sym (ap (λ (a : Answer Result). intoBoth a edges escapes)
+    ∙ sym (ap (λ (a : Answer Result). readIntoBoth a edges escapes)
     (h Result (resultAt s (layerEdgesOf (sh .height) (sh .distance)) (detectorsOf (sh .height) (sh .distance)) at)))

@@ -44,11 +44,11 @@ pub record Result : Type 0 where
   pub escapes : List ℕ
   pub steps : ℕ
 
-abbrev pub edgesOf : Result → List ℕ
-edgesOf r = r .edges
+abbrev pub resultEdges : Result → List ℕ
+resultEdges r = r .edges
 
-abbrev pub escapesOf : Result → List ℕ
-escapesOf r = r .escapes
+abbrev pub resultEscapes : Result → List ℕ
+resultEscapes r = r .escapes
 
 unfoldable pub result : Result → List ℕ
 result r = listed (r .edges) ++ (listed (r .escapes) ++ written (r .steps))

@@ -91,8 +91,8 @@ isDone (refused n) = false
 isDone (refusedAt n at) = false
 
 -- an answer without its value
-abbrev pub passed : {A : Type 0} → Answer A → Answer (Unit {0})
-passed (done a next) = done tt next
-passed ended = ended
-passed (refused n) = refused n
-passed (refusedAt n at) = refusedAt n at
+abbrev pub withoutValue : {A : Type 0} → Answer A → Answer (Unit {0})
+withoutValue (done a next) = done tt next
+withoutValue ended = ended
+withoutValue (refused n) = refused n
+withoutValue (refusedAt n at) = refusedAt n at

@@ -11,7 +11,7 @@ use Rattle.refusal.specs.Answer.{Answer, done, refused, turned, unless, 
 use Rattle.refusal.specs.Laws.{turned-not, value-not}
 use Rattle.refusal.specs.declared.Refusal.{Refusal}
 use Rattle.refusal.specs.Tests.{Passes, Turned, unless-append}
-use Rattle.refusal.specs.Writing.{left, writing, room, laid, front, putTo}
+use Rattle.refusal.specs.Writing.{buffered, writing, room, laid, front, putTo}
 use lib.Seq.{take-suc, drop-cons, set-at, take-at, drop-at, take-add, drop-drop, take-length, length-take-le, append-snoc, take-append-seam}
 
 -- the first i bytes stand in the buffer
@@ -65,22 +65,22 @@ front-full old bytes h = rw (lt-leb (length bytes) (length old) h, front) refl
 
 module _ (tests : List (Bool × ℕ)) (old : List ℕ) (at : ℕ) (bytes : List ℕ) where
   -- a test before turns the call back
-  pub writing-turned : (f : Refusal) → Turned tests f → left (turned f) old ≡ writing tests old at bytes
+  pub writing-turned : (f : Refusal) → Turned tests f → buffered (turned f) old ≡ writing tests old at bytes
   writing-turned f h =
       let e : unless (tests ++ (room old at bytes ∷ [])) (done tt (at + length bytes)) ≡ turned f =
       unless-append tests (room old at bytes ∷ []) (done tt (at + length bytes)) ∙ h (Unit {0}) (unless (room old at bytes ∷ []) (done tt (at + length bytes))) in
-      sym (ap (λ (a : Answer (Unit {0})). left a (valueOr a (λ u. laid old at bytes) old)) e ∙ ap (λ (l : List ℕ). left (turned f) l) (value-not (turned f) (λ u. laid old at bytes) old (turned-not (Unit {0}) f)))
+      sym (ap (λ (a : Answer (Unit {0})). buffered a (valueOr a (λ u. laid old at bytes) old)) e ∙ ap (λ (l : List ℕ). buffered (turned f) l) (value-not (turned f) (λ u. laid old at bytes) old (turned-not (Unit {0}) f)))
 
   module _ (h : Passes tests) where
     by-room : _≡_ {A = Answer (Unit {0})} (unless (tests ++ (room old at bytes ∷ [])) (done tt (at + length bytes))) (unless (room old at bytes ∷ []) (done tt (at + length bytes)))
     by-room = unless-append tests (room old at bytes ∷ []) (done tt (at + length bytes)) ∙ h (Unit {0}) (unless (room old at bytes ∷ []) (done tt (at + length bytes)))
 
-    pub writing-full : length old - at < length bytes → left (refused 11) old ≡ writing tests old at bytes
+    pub writing-full : length old - at < length bytes → buffered (refused 11) old ≡ writing tests old at bytes
     writing-full k =
         let e : unless (tests ++ (room old at bytes ∷ [])) (done tt (at + length bytes)) ≡ refused 11 = by-room ∙ rw (lt-leb (length bytes) (length old - at) k) refl in
-        sym (ap (λ (a : Answer (Unit {0})). left a (valueOr a (λ u. laid old at bytes) old)) e)
+        sym (ap (λ (a : Answer (Unit {0})). buffered a (valueOr a (λ u. laid old at bytes) old)) e)
 
-    pub writing-done : length bytes ≤ length old - at → left (done tt (at + length bytes)) (laid old at bytes) ≡ writing tests old at bytes
+    pub writing-done : length bytes ≤ length old - at → buffered (done tt (at + length bytes)) (laid old at bytes) ≡ writing tests old at bytes
     writing-done k =
         let e : unless (tests ++ (room old at bytes ∷ [])) (done tt (at + length bytes)) ≡ done tt (at + length bytes) = by-room ∙ rw (le-leb (length bytes) (length old - at) k) refl in
-        sym (ap (λ (a : Answer (Unit {0})). left a (valueOr a (λ u. laid old at bytes) old)) e)
+        sym (ap (λ (a : Answer (Unit {0})). buffered a (valueOr a (λ u. laid old at bytes) old)) e)

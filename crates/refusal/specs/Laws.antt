@@ -3,7 +3,7 @@ use Prim.Native.Nat.{ℕ}
 use mathlib.Core.Path.{_≡_, refl, sym, _∙_, ap}
 use mathlib.Core.Bool.{true, false}
 use native.Mathlib.Omega.{arith}
-use Rattle.refusal.specs.Answer.{Answer, done, ended, refused, refusedAt, Code, plain, placed, codeOf, byCode, turned, andThen, isDone, passed, nextOr, valueOr}
+use Rattle.refusal.specs.Answer.{Answer, done, ended, refused, refusedAt, Code, plain, placed, codeOf, byCode, turned, andThen, isDone, withoutValue, nextOr, valueOr}
 use Rattle.refusal.specs.declared.Refusal.{Refusal}
 
 -- what holds of both kinds of number holds of every refusal
@@ -18,8 +18,8 @@ each P p q f = go (codeOf f)
 pub turned-as : {A B : Type 0} (f : Refusal) (g : A → ℕ → Answer B) → andThen (turned f) g ≡ turned f
 turned-as {A} {B} f g = each (λ (k : Code). andThen (byCode {A = A} k) g ≡ byCode {A = B} k) (λ n. refl) (λ n at. refl) f
 
-pub turned-passed : (A : Type 0) (f : Refusal) → passed (turned {A = A} f) ≡ turned f
-turned-passed A f = each (λ (k : Code). passed (byCode {A = A} k) ≡ byCode k) (λ n. refl) (λ n at. refl) f
+pub turned-passed : (A : Type 0) (f : Refusal) → withoutValue (turned {A = A} f) ≡ turned f
+turned-passed A f = each (λ (k : Code). withoutValue (byCode {A = A} k) ≡ byCode k) (λ n. refl) (λ n at. refl) f
 
 pub turned-not : (A : Type 0) (f : Refusal) → isDone (turned {A = A} f) ≡ false
 turned-not A f = each (λ (k : Code). isDone (byCode {A = A} k) ≡ false) (λ n. refl) (λ n at. refl) f
@@ -31,13 +31,13 @@ pub undone : true ≡ false → ⊥
 undone e = let z : _≡_ {A = ℕ} 0 1 = cc in omega arith
 
 -- what is not done stays, whatever was to come
-pub not-done : {A B : Type 0} (a : Answer A) (f : A → ℕ → Answer B) → isDone a ≡ false → passed (andThen a f) ≡ passed a
+pub not-done : {A B : Type 0} (a : Answer A) (f : A → ℕ → Answer B) → isDone a ≡ false → withoutValue (andThen a f) ≡ withoutValue a
 not-done (done a next) f e = absurd (undone e)
 not-done ended f e = refl
 not-done (refused n) f e = refl
 not-done (refusedAt n at) f e = refl
 
-pub done-passed : {A : Type 0} (a : Answer A) → isDone (passed a) ≡ isDone a
+pub done-passed : {A : Type 0} (a : Answer A) → isDone (withoutValue a) ≡ isDone a
 done-passed (done a next) = refl
 done-passed ended = refl
 done-passed (refused n) = refl
@@ -53,14 +53,14 @@ value-not (refusedAt n at) of other e = refl
 -- WHAT CAME BEFORE, from an answer without its value
 
 -- a refusal is the same whatever was to come
-pub turned-on : {A B : Type 0} (a : Answer A) (f : Refusal) (g : A → ℕ → Answer B) → passed a ≡ turned f → andThen a g ≡ turned f
+pub turned-on : {A B : Type 0} (a : Answer A) (f : Refusal) (g : A → ℕ → Answer B) → withoutValue a ≡ turned f → andThen a g ≡ turned f
 turned-on (done v next) f g e = absurd (undone (ap (λ (x : Answer (Unit {0})). isDone x) e ∙ turned-not (Unit {0}) f))
 turned-on ended f g e = ap (λ (x : Answer (Unit {0})). andThen x (λ u n. ended)) e ∙ turned-as f (λ u n. ended)
 turned-on (refused n) f g e = ap (λ (x : Answer (Unit {0})). andThen x (λ u n. ended)) e ∙ turned-as f (λ u n. ended)
 turned-on (refusedAt n at) f g e = ap (λ (x : Answer (Unit {0})). andThen x (λ u n. ended)) e ∙ turned-as f (λ u n. ended)
 
 -- and so is an end
-pub ended-on : {A B : Type 0} (a : Answer A) (g : A → ℕ → Answer B) → passed a ≡ ended → andThen a g ≡ ended
+pub ended-on : {A B : Type 0} (a : Answer A) (g : A → ℕ → Answer B) → withoutValue a ≡ ended → andThen a g ≡ ended
 ended-on (done v next) g e = absurd (undone (ap (λ (x : Answer (Unit {0})). isDone x) e))
 ended-on ended g e = refl
 ended-on (refused n) g e = let z : _≡_ {A = ℕ} 0 1 = cc in absurd (omega arith)
@@ -73,13 +73,13 @@ itself-on ended = refl
 itself-on (refused n) = refl
 itself-on (refusedAt n at) = refl
 
-pub turned-back : {A : Type 0} (a : Answer A) (f : Refusal) → passed a ≡ turned f → a ≡ turned f
+pub turned-back : {A : Type 0} (a : Answer A) (f : Refusal) → withoutValue a ≡ turned f → a ≡ turned f
 turned-back a f e = sym (itself-on a) ∙ turned-on a f (λ v next. done v next) e
 
-pub ended-back : {A : Type 0} (a : Answer A) → passed a ≡ ended → a ≡ ended
+pub ended-back : {A : Type 0} (a : Answer A) → withoutValue a ≡ ended → a ≡ ended
 ended-back a e = sym (itself-on a) ∙ ended-on a (λ v next. done v next) e
 
-pub done-on : {A : Type 0} (a : Answer A) (next : ℕ) → passed a ≡ done tt next → (v : A) × (a ≡ done v next)
+pub done-on : {A : Type 0} (a : Answer A) (next : ℕ) → withoutValue a ≡ done tt next → (v : A) × (a ≡ done v next)
 done-on (done v n) next e = let k : n ≡ next = cc in (v, ap (λ (m : ℕ). done v m) k)
 done-on ended next e = absurd (undone (sym (ap (λ (x : Answer (Unit {0})). isDone x) e)))
 done-on (refused n) next e = absurd (undone (sym (ap (λ (x : Answer (Unit {0})). isDone x) e)))

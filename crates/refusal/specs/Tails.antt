@@ -10,7 +10,7 @@ use lib.ListN.{length, take, drop, length-drop, take-append-drop, drop-of-length
 use lib.Seq.{take-all, drop-drop}
 use Rattle.refusal.specs.Answer.{done, refused}
 use Rattle.refusal.specs.Tests.{Passes}
-use Rattle.refusal.specs.Writing.{left, writing, Put, putTo, front, laid}
+use Rattle.refusal.specs.Writing.{buffered, writing, Put, putTo, front, laid}
 use Rattle.refusal.specs.Filling.{front-fits, front-full, writing-full, writing-done}
 
 -- the elements from the offset on, and the whole with others in their place
@@ -69,7 +69,7 @@ module _ (old : List ℕ) (at : ℕ) (inside : at ≤ length old) where
 -- a writer that tests, then hands on its tail
 module _ (tests : List (Bool × ℕ)) (old : List ℕ) (at : ℕ) (inside : at ≤ length old) (bytes : List ℕ) (count : ℕ) (last : List ℕ)
     (put : putTo count last ≡ front (tail old at) bytes) (some : 0 < length bytes) (passes : Passes tests) where
-  pub wrote-none : count ≡ 0 → left (refused 11) (putBack old at last) ≡ writing tests old at bytes
+  pub wrote-none : count ≡ 0 → buffered (refused 11) (putBack old at last) ≡ writing tests old at bytes
   wrote-none z =
       let full = count-none old at inside bytes count last put some z in
       rw (tail-full old at inside bytes count last put full .1) (writing-full tests old at bytes passes full)
@@ -80,7 +80,7 @@ module _ (tests : List (Bool × ℕ)) (old : List ℕ) (at : ℕ) (inside : at �
         let r = count-some old at inside bytes count last put some z in
         omega (arith, r, tail-laid old at inside bytes count last put r .0)
 
-    pub wrote-some : left (done tt (at + count)) (putBack old at last) ≡ writing tests old at bytes
+    pub wrote-some : buffered (done tt (at + count)) (putBack old at last) ≡ writing tests old at bytes
     wrote-some =
         let r = count-some old at inside bytes count last put some z in
         let e = tail-laid old at inside bytes count last put r in

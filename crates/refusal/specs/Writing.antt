@@ -7,12 +7,12 @@ use lib.ListN.{length, take, drop}
 use Rattle.refusal.specs.Answer.{Answer, done, unless, valueOr}
 
 -- what a call with one buffer leaves
-pub record Left : Type 0 where
+pub record Buffered : Type 0 where
   pub answer : Answer (Unit {0})
   pub buffer : List ℕ
 
-abbrev pub left : Answer (Unit {0}) → List ℕ → Left
-left a buffer = record { answer = a; buffer = buffer }
+abbrev pub buffered : Answer (Unit {0}) → List ℕ → Buffered
+buffered a buffer = record { answer = a; buffer = buffer }
 
 -- the record stands at the offset, and every other byte is as it was
 abbrev pub laid : List ℕ → ℕ → List ℕ → List ℕ
@@ -23,10 +23,10 @@ abbrev pub room : List ℕ → ℕ → List ℕ → Bool × ℕ
 room old at bytes = (leb (length bytes) (length old - at), 11)
 
 -- a record written from an offset on, where no test before fails and it has room
-abbrev pub writing : List (Bool × ℕ) → List ℕ → ℕ → List ℕ → Left
+abbrev pub writing : List (Bool × ℕ) → List ℕ → ℕ → List ℕ → Buffered
 writing tests old at bytes =
     let a : Answer (Unit {0}) = unless (tests ++ (room old at bytes ∷ [])) (done tt (at + length bytes)) in
-    left a (valueOr a (λ u. laid old at bytes) old)
+    buffered a (valueOr a (λ u. laid old at bytes) old)
 
 -- how many bytes were put at a buffer's front, and the buffer
 pub record Put : Type 0 where

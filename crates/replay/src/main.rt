@@ -305,7 +305,7 @@ fn byte(x: u32) -> u8 {
 fn open(script: &[u8; 65536], from: usize) -> Window {
     let height = number(script, from);
     let distance = number(script, height.at);
-    let given = calls::fresh(height.value, distance.value);
+    let given = fresh::fresh(height.value, distance.value);
     let answer = given.answer;
     say(b"open ");
     say_called(answer);
@@ -598,7 +598,7 @@ fn line(script: &[u8; 65536], from: usize, letter: u8, w: Window) -> Window {
 fn main() {
     let mut script = io::large_buffer();
     io::read_full(0, &mut script);
-    let given = calls::fresh(1, 2);
+    let given = fresh::fresh(1, 2);
     let mut window = given.window;
     let mut at: usize = 0;
     while at < 65536 {

@@ -14,18 +14,18 @@ use Rattle.shape.specs.Sizes.{inRange, nodesOf, sheetsOf, boundary, detectorsOf
 use Rattle.shape.specs.Ranges.{Ranged, ranged, in-range, nodes-of, sheets-le}
 use Rattle.shape.specs.Boundaries.{between}
 use Rattle.shape.specs.Counting.{Inside, within-place, before}
-use Rattle.shape.specs.LawsLayer.{detectors-le}
+use Rattle.shape.specs.LawsSizes.{detectors-le}
 use Rattle.shape.specs.Nodes.{placeAt, numberOf}
-use Rattle.shape.specs.Steps.{base, across}
+use Rattle.steps.specs.Steps.{base, across}
 use Rattle.shape.specs.declared.Place.{Place}
 use Rattle.walk.specs.LawsWalk.{peopled}
 use Rattle.window.specs.Lists.{from, byPlace, over}
 use Rattle.window.specs.Window.{alone, naming, namer, size, sheet, at, place}
-use Rattle.window.specs.Round.{loweredNumber, sunk, received, fallenNode, atTop, fallenSlot}
+use Rattle.window.specs.Round.{loweredNumber, sunk, topNode, fallenNode, atTop, fallenSlot}
 use Rattle.window.specs.declared.Node.{Node}
 use Rattle.window.specs.declared.Window.{Window}
-use Rattle.round.specs.Slots.{sheetNodes, fallen}
-use Rattle.round.specs.LawsSlots.{new-top, new-time, no-time, lower}
+use Rattle.slots.specs.Slots.{sheetNodes, fallen}
+use Rattle.slots.specs.LawsSlots.{new-top, new-time, no-time, lower}
 
 -- A MARK'S NUMBER, in a shape of s sheets, and that nothing wraps on the way
 
@@ -67,12 +67,12 @@ module _ (h d s : ℕ) (r : Ranged h d) (e : s ≡ sheetsOf d) where
 -- A NODE OF THE NEW TOP SHEET
 
 module _ (h d : ℕ) (bytes : List ℕ) (q : Place) (m : ℕ) (n : m ≡ numberOf h d q) where
-  pub receive-side : boundary d (q .column) ≡ true → alone m false ≡ received h d bytes q
-  unfolding received
+  pub receive-side : boundary d (q .column) ≡ true → alone m false ≡ topNode h d bytes q
+  unfolding topNode
   receive-side e = rw (e, n)
 
-  pub receive-inner : boundary d (q .column) ≡ false → alone m (eqb (getD bytes (q .row * (d - 1) + (q .column - 1)) 0) 1) ≡ received h d bytes q
-  unfolding received
+  pub receive-inner : boundary d (q .column) ≡ false → alone m (eqb (getD bytes (q .row * (d - 1) + (q .column - 1)) 0) 1) ≡ topNode h d bytes q
+  unfolding topNode
   receive-inner e = rw (e, n)
 
 -- its detector is one of the sheet
@@ -85,7 +85,7 @@ detector-lt h d k q i e =
 -- WHAT FALLS INTO A NODE
 
 module _ (w : Window) (bytes : List ℕ) (g : ℕ) where
-  pub fallen-top : (q : Place) (v : Node) → g < sheet w → q ≡ place w g → v ≡ received (w .shape .height) (w .shape .distance) bytes q → v ≡ fallenNode w bytes g
+  pub fallen-top : (q : Place) (v : Node) → g < sheet w → q ≡ place w g → v ≡ topNode (w .shape .height) (w .shape .distance) bytes q → v ≡ fallenNode w bytes g
   unfolding fallenNode
   fallen-top q v l e f = f ∙ rw (lt-ltb g (sheet w) l, e)
 

@@ -1,4 +1,1 @@
-pub mod LawsBottom
-pub mod Slots
-pub mod LawsSlots
 pub mod LawsFall

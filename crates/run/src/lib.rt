@@ -3,7 +3,7 @@ use window::Ran;
 use window::Window;
 ghost use mathlib.Core.Path.{_≡_};
 ghost use Rattle.shape.specs.Choice.{if};
-ghost use Rattle.shape.specs.Steps.{base};
+ghost use Rattle.steps.specs.Steps.{base};
 ghost use Rattle.window.specs.Window.{isToGrow};
 ghost use Rattle.window.specs.Grow.{grown};
 ghost use Rattle.window.specs.Run.{stepsFrom, ran};

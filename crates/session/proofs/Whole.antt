@@ -13,28 +13,28 @@ use Rattle.refusal.specs.Bytes.{Bytes}
 use Rattle.refusal.specs.Tests.{Passes}
 use Rattle.refusal.specs.Writing.{laid}
 use Rattle.refusal.specs.declared.Refusal.{Refusal}
-use Rattle.number.specs.Number.{toldWrote}
+use Rattle.number.specs.Number.{writtenBuffered}
 use Rattle.number.specs.declared.Wrote.{Wrote}
 use Rattle.number.specs.declared.Wrote.the-variants as wroteTo
 use Rattle.shape.specs.Ranges.{halves}
 use Rattle.shape.specs.Sizes.{heightOk, distanceOk, shapeTests, shapeOf}
-use Rattle.shape.specs.Steps.{base}
+use Rattle.steps.specs.Steps.{base}
 use Rattle.shape.specs.declared.Shape.{Shape}
-use Rattle.record.specs.Calls.{toldHeader, placeTests, writeHeader}
-use Rattle.stream.specs.Fits.{InRange}
-use Rattle.stream.specs.Header.{header-writes}
+use Rattle.record.specs.Calls.{headerAnswer, placeTests, writeHeader}
+use Rattle.trip.specs.Fits.{InRange}
+use Rattle.trip.specs.Header.{header-writes}
 use Rattle.record.specs.Records.{header, headerAt}
 use Rattle.record.specs.declared.HeaderRead.{HeaderRead}
 use Rattle.record.specs.declared.HeaderRead.the-variants as headerRead
 use Rattle.window.specs.Fresh.{freshWindow, noWindow}
 use Rattle.window.specs.Calls.{Answered, given, leaves, freshCall}
 use Rattle.window.specs.declared.Window.{Window}
-use Rattle.session.specs.Decoding.{Line, turnedBack, Rounds, rounds, Decoded, behind, decoded}
-use Rattle.session.specs.Answers.{Passed, passed, roundsLeave, resulted, into, decodeLeaves}
-use Rattle.session.specs.LawsTests.{hold-pass}
-use Rattle.session.specs.LawsDecoding.{decoded-turned, decoded-full, decoded-on}
+use Rattle.decoding.specs.Decoding.{Line, turnedBack, Rounds, rounds, Decoded, behind, decoded}
+use Rattle.decoding.specs.Answers.{RoundsReturned, roundsReturned, roundsLeave, decodeReturned, outputLeaves, decodeLeaves}
+use Rattle.decoding.specs.LawsTests.{hold-pass}
+use Rattle.decoding.specs.LawsDecoding.{decoded-turned, decoded-full, decoded-on}
 use Rattle.session.proofs.Laid.{laid-long, laid-more}
-use Rattle.session.proofs.Writers.{writer-full, writer-wrote}
+use Rattle.turn.proofs.Writers.{writer-full, writer-wrote}
 
 -- a shape in range has a fresh window
 fresh-is : (sh : Shape) → InRange sh → (a : Answer (Unit {0})) (v : Window) → given a v ≡ leaves (freshCall (sh .height) (sh .distance)) itself noWindow → v ≡ freshWindow sh
@@ -48,14 +48,14 @@ fresh-is sh range a v e =
 pub record Put (s old : List ℕ) (sh : Shape) (next : ℕ) (q : Wrote) (new : List ℕ) : Type 0 where
   pub stream : Bytes s
   pub read : headerAt s 0 ≡ done sh next
-  pub put : toldWrote q new ≡ writeHeader sh old 0
+  pub put : writtenBuffered q new ≡ writeHeader sh old 0
 
 module _ (s old : List ℕ) where
-  as-decoded : (x : Decoded) → decoded base s (length old) ≡ x → into x old ≡ decodeLeaves base s old
-  as-decoded x e = sym (ap (λ (y : Decoded). into y old) e)
+  as-decoded : (x : Decoded) → decoded base s (length old) ≡ x → outputLeaves x old ≡ decodeLeaves base s old
+  as-decoded x e = sym (ap (λ (y : Decoded). outputLeaves y old) e)
 
-  pub header-refused : (r : HeaderRead) → toldHeader r ≡ headerAt s 0 → (f : Refusal) → r ≡ headerRead.Refused f → resulted (turnedBack (codeOf f)) 0 old ≡ decodeLeaves base s old
-  header-refused r read f z = as-decoded _ (decoded-turned base s (length old) f (sym read ∙ ap toldHeader z))
+  pub header-refused : (r : HeaderRead) → headerAnswer r ≡ headerAt s 0 → (f : Refusal) → r ≡ headerRead.Refused f → decodeReturned (turnedBack (codeOf f)) 0 old ≡ decodeLeaves base s old
+  header-refused r read f z = as-decoded _ (decoded-turned base s (length old) f (sym read ∙ ap headerAnswer z))
 
   module _ (sh : Shape) (next : ℕ) (q : Wrote) (new : List ℕ) (p : Put s old sh next q new) where
     range : InRange sh
@@ -72,27 +72,27 @@ module _ (s old : List ℕ) where
     room : (t : Bool) → leb (length (header sh)) (length old - 0) ≡ t → leb (length (header sh)) (length old) ≡ t
     room t e = subst (λ (n : ℕ). leb (length (header sh)) n ≡ t) (sub-zero (length old)) e
 
-    pub header-full : (f : Refusal) → q ≡ wroteTo.Not f → resulted (turnedBack (codeOf f)) 0 new ≡ decodeLeaves base s old
+    pub header-full : (f : Refusal) → q ≡ wroteTo.Not f → decodeReturned (turnedBack (codeOf f)) 0 new ≡ decodeLeaves base s old
     header-full f y =
-        let x = writer-full tests pass old 0 (header sh) new f (ap (λ (x : Wrote). toldWrote x new) (sym y) ∙ p .put) in
+        let x = writer-full tests pass old 0 (header sh) new f (ap (λ (x : Wrote). writtenBuffered x new) (sym y) ∙ p .put) in
         rw (x .code, x .buffer) (as-decoded _ (decoded-full base s (length old) sh next (p .read) (room _ (x .room))))
 
     -- the rounds behind the header
     pub rounds-behind : (to : ℕ) → q ≡ wroteTo.To to → (a : Answer (Unit {0})) (v : Window) → given a v ≡ leaves (freshCall (sh .height) (sh .distance)) itself noWindow
-        → (l : Line) (u : Window) (i count : ℕ) (last : List ℕ) → passed l u i count last ≡ roundsLeave base s v next new to → resulted l count last ≡ decodeLeaves base s old
+        → (l : Line) (u : Window) (i count : ℕ) (last : List ℕ) → roundsReturned l u i count last ≡ roundsLeave base s v next new to → decodeReturned l count last ≡ decodeLeaves base s old
     rounds-behind to y a v fresh l u i count last made =
-        let x = writer-wrote tests pass old 0 (header sh) new to (ap (λ (x : Wrote). toldWrote x new) (sym y) ∙ p .put) in
+        let x = writer-wrote tests pass old 0 (header sh) new to (ap (λ (x : Wrote). writtenBuffered x new) (sym y) ∙ p .put) in
         let fits = leb-true (length (header sh)) (length old) (room _ (x .room)) in
         let inside : 0 + length (header sh) ≤ length old = omega arith in
         let long : length (laid old 0 (header sh)) ≡ length old = laid-long old 0 (header sh) inside in
         let start : to ≡ length (header sh) = x .next ∙ zero-add (length (header sh)) in
         let r : Rounds = rounds base s (length old) (freshWindow sh) next (length (header sh)) in
         let all : List ℕ = header sh ++ r .output in
-        let on : passed l u i count last ≡ passed (r .line) (r .window) (r .next) (length (header sh) + length (r .output)) (laid (laid old 0 (header sh)) (length (header sh)) (r .output)) =
+        let on : roundsReturned l u i count last ≡ roundsReturned (r .line) (r .window) (r .next) (length (header sh) + length (r .output)) (laid (laid old 0 (header sh)) (length (header sh)) (r .output)) =
         made ∙ rw (fresh-is sh range a v fresh, x .buffer, start, long) refl in
-        let line : l ≡ r .line = ap (λ (p : Passed). p .line) on in
-        let size : count ≡ length all = ap (λ (p : Passed). p .behind) on ∙ sym (length-append (header sh) (r .output)) in
+        let line : l ≡ r .line = ap (λ (p : RoundsReturned). p .line) on in
+        let size : count ≡ length all = ap (λ (p : RoundsReturned). p .behind) on ∙ sym (length-append (header sh) (r .output)) in
         let joined : laid (laid old 0 (header sh)) (length (header sh)) (r .output) ≡ laid old 0 all =
         subst (λ (n : ℕ). laid (laid old 0 (header sh)) n (r .output) ≡ laid old 0 all) (zero-add (length (header sh))) (laid-more old 0 (header sh) inside (r .output)) in
-        let buffer : last ≡ all ++ drop (length all) old = ap (λ (p : Passed). p .buffer) on ∙ joined ∙ ap (λ (n : ℕ). all ++ drop n old) (zero-add (length all)) in
+        let buffer : last ≡ all ++ drop (length all) old = ap (λ (p : RoundsReturned). p .buffer) on ∙ joined ∙ ap (λ (n : ℕ). all ++ drop n old) (zero-add (length all)) in
         rw (line, size, buffer) (as-decoded _ (decoded-on base s (length old) sh next (p .read) (room _ (x .room))))

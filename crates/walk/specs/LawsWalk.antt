@@ -12,12 +12,12 @@ use Rattle.shape.specs.Sizes.{sheetsOf, boundary, inRange, nodesIn, nodesOf}
 use Rattle.shape.specs.Ranges.{Ranged, ranged, nodes-of, sheets-le}
 use Rattle.shape.specs.Counting.{Inside}
 use Rattle.shape.specs.Nodes.{indexOf, placeAt, numberOf}
-use Rattle.shape.specs.Steps.{Table, base, near, slot}
-use Rattle.shape.specs.Proper.{proper-base}
-use Rattle.shape.specs.LawsStep.{near-inside, slot-max}
+use Rattle.steps.specs.Steps.{Table, base, near, slot, falls}
+use Rattle.steps.specs.Proper.{proper-base}
+use Rattle.steps.specs.LawsStep.{near-inside, slot-max}
 use Rattle.shape.specs.declared.Found.{Found}
 use Rattle.shape.specs.declared.Found.the-variants.{At, Nowhere}
-use Rattle.window.specs.Window.{falls, naming, namer, nowhere, reach}
+use Rattle.window.specs.Window.{naming, namer, nowhere, reach}
 use Rattle.window.specs.declared.Way.{Way}
 use Rattle.shape.specs.LawsIndex.{index-place, place-index, index-inside, index-lt, window-le, numbers-le}
 use Rattle.shape.specs.LawsNumber.{number-lt}

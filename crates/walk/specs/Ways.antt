@@ -11,12 +11,12 @@ use Rattle.shape.specs.Choice.{tell, order}
 use Rattle.shape.specs.Sizes.{sheetsOf, boundary}
 use Rattle.shape.specs.Ranges.{halves, both}
 use Rattle.shape.specs.Nodes.{indexOf}
-use Rattle.shape.specs.Steps.{base, step, goes, fits, stays, alongRow, across, insideOf, bothDetectors, joined, slot, north, west, east, south, down, up}
-use Rattle.shape.specs.Proper.{no-pointer}
-use Rattle.shape.specs.Joins.{Joins, joined-by, near-at, near-none}
+use Rattle.steps.specs.Steps.{base, step, goes, fits, stays, alongRow, across, insideOf, bothDetectors, joined, slot, north, west, east, south, down, up}
+use Rattle.steps.specs.Proper.{no-pointer}
+use Rattle.steps.specs.Joins.{Joins, joined-by, near-at, near-none}
 use Rattle.shape.specs.LawsIndex.{index-lt, window-le}
 use Rattle.shape.specs.declared.Place.{Place}
-use Rattle.shape.specs.declared.Step.{Step}
+use Rattle.steps.specs.declared.Step.{Step}
 use Rattle.window.specs.LawsLists.{and-no, and-not}
 use Rattle.window.specs.Window.{nowhere, reach}
 use Rattle.window.specs.declared.Way.{Way}

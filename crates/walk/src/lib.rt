@@ -7,7 +7,7 @@ ghost use mathlib.Core.Bool.{true, not};
 ghost use Prim.Native.Nat.{_+_, _*_, _<_};
 ghost use Rattle.shape.specs.Sizes.{boundary, sheetsOf};
 ghost use Rattle.shape.specs.Nodes.{numberOf};
-ghost use Rattle.shape.specs.Steps.{base};
+ghost use Rattle.steps.specs.Steps.{base};
 ghost use Rattle.walk.specs.Walk.{placeAfter, Stands};
 ghost use Rattle.window.specs.Window.{nowhere, reach as reachOf};
 

@@ -4,14 +4,14 @@ use mathlib.Core.Bool.{Bool, not}
 use mathlib.Core.List.{List, [], _∷_}
 use lib.Dec.{ltb, eqb}
 use lib.ListN.{length}
-use Rattle.refusal.specs.Answer.{Answer, done, turned, unless, andThen, passed, valueOr}
+use Rattle.refusal.specs.Answer.{Answer, done, turned, unless, andThen, withoutValue, valueOr}
 use Rattle.list.specs.Sheet.{areBits}
 use Rattle.shape.specs.Sizes.{shapeOf, detectorsOf, layerEdgesOf}
-use Rattle.shape.specs.Steps.{Table}
+use Rattle.steps.specs.Steps.{Table}
 use Rattle.window.specs.Window.{isRest, isToGrow, isMerging}
 use Rattle.window.specs.Fresh.{freshWindow}
 use Rattle.window.specs.Formed.{wellFormed}
-use Rattle.window.specs.Round.{rounded, committed, escaped}
+use Rattle.window.specs.Round.{rounded, committedEdges, escapedDefects}
 use Rattle.window.specs.Grow.{grown}
 use Rattle.window.specs.Merging.{merged}
 use Rattle.window.specs.Run.{ran}
@@ -22,9 +22,9 @@ use Rattle.window.specs.declared.Called.the-variants as called
 
 -- THE ANSWERS
 
-abbrev pub told : Called → Answer (Unit {0})
-told called.Done = done tt 0
-told (called.Refused f) = turned f
+abbrev pub callAnswer : Called → Answer (Unit {0})
+callAnswer called.Done = done tt 0
+callAnswer (called.Refused f) = turned f
 
 -- what a call answers, and the window after it
 pub record Answered (A : Type 0) : Type 0 where
@@ -36,7 +36,7 @@ given a w = record { answer = a; window = w }
 
 -- the window that a call gives where it is done, and the one that it was given where not
 abbrev pub leaves : {A : Type 0} → Answer A → (A → Window) → Window → Answered (Unit {0})
-leaves a of w = given (passed a) (valueOr a of w)
+leaves a of w = given (withoutValue a) (valueOr a of w)
 
 -- 1, 2
 unfoldable pub freshCall : ℕ → ℕ → Answer Window
@@ -77,7 +77,7 @@ module _ (T : Table) (w : Window) where
   unfoldable pub roundCall : List ℕ → List ℕ → List ℕ → Answer Round
   roundCall bytes edges escapes =
       unless (roundTests bytes (length edges) (length escapes))
-      (done (record { window = rounded T w bytes; edges = committed T w; escapes = escaped w }) 0)
+      (done (record { window = rounded T w bytes; edges = committedEdges T w; escapes = escapedDefects w }) 0)
 
   unfoldable pub growCall : Answer Window
   growCall = unless (stateTests (isToGrow (w .stage))) (done (grown T w) 0)

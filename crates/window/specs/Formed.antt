@@ -4,10 +4,10 @@ use mathlib.Core.Bool.{Bool, _&&_, _||_, not, false}
 use lib.Dec.{ltb, leb, eqb}
 use lib.ListN.{getD, drop}
 use Rattle.shape.specs.Sizes.{sheetsOf, boundary, inRange, nodesIn}
-use Rattle.shape.specs.Steps.{Table}
+use Rattle.steps.specs.Steps.{Table, falls}
 use Rattle.shape.specs.declared.Place.{Place}
 use Rattle.window.specs.Lists.{every, all}
-use Rattle.window.specs.Window.{isToGrow, isMerging, falls, namer, reach, size, present, at, place, to}
+use Rattle.window.specs.Window.{isToGrow, isMerging, namer, reach, size, present, at, place, to}
 use Rattle.window.specs.declared.Mark.{Mark}
 use Rattle.window.specs.declared.Mark.the-variants.{Reset, Root}
 use Rattle.window.specs.declared.Stage.{Stage}

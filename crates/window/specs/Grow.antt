@@ -3,9 +3,9 @@ use Prim.Native.Nat.{ℕ, _+_, _*_, _/_, _%_, min}
 use mathlib.Core.Bool.{_&&_}
 use lib.ListN.{getD}
 use Rattle.shape.specs.Choice.{if}
-use Rattle.shape.specs.Steps.{Table}
+use Rattle.steps.specs.Steps.{Table, falls}
 use Rattle.window.specs.Lists.{over, bit}
-use Rattle.window.specs.Window.{falls, namer, size, at, bottom, to}
+use Rattle.window.specs.Window.{namer, size, at, bottom, to}
 use Rattle.window.specs.declared.Mark.the-variants.{Reset}
 use Rattle.window.specs.declared.Stage.the-variants.{Merging}
 use Rattle.window.specs.declared.Node.{Node}

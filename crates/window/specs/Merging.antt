@@ -6,7 +6,7 @@ use lib.Dec.{ltb, eqb}
 use lib.ListN.{length, getD}
 use Rattle.shape.specs.Choice.{if}
 use Rattle.shape.specs.Nodes.{numberOf}
-use Rattle.shape.specs.Steps.{Table, step}
+use Rattle.steps.specs.Steps.{Table, step}
 use Rattle.window.specs.Lists.{byPlace, over, any, xor}
 use Rattle.window.specs.Window.{namer, size, at, place, detector, to}
 use Rattle.window.specs.declared.Mark.{Mark}

@@ -7,9 +7,9 @@ use lib.ListN.{getD}
 use Rattle.shape.specs.Choice.{if}
 use Rattle.shape.specs.Sizes.{sheetsOf, boundary, detectorsOf, layerEdgesOf}
 use Rattle.shape.specs.Nodes.{indexOf, numberOf, boundaryNodes}
-use Rattle.shape.specs.Steps.{Table, step, across}
-use Rattle.shape.specs.Layer.{edgeOf}
-use Rattle.shape.specs.declared.Edge.{Edge}
+use Rattle.steps.specs.Steps.{Table, step, across}
+use Rattle.layers.specs.Layer.{edgeOf}
+use Rattle.layers.specs.declared.Edge.{Edge}
 use Rattle.shape.specs.declared.Place.{Place}
 use Rattle.window.specs.Lists.{byPlace, over, bit}
 use Rattle.window.specs.Window.{alone, namer, size, sheet, at, place}
@@ -30,15 +30,15 @@ abbrev pub detectorAt : ℕ → ℕ → ℕ → Place
 detectorAt d depth i = record { depth = depth; row = i / (d - 1); column = i % (d - 1) + 1 }
 
 -- the bottom layer's correction bits go to the edge buffer, one byte an edge
-unfoldable pub committed : Table → Window → List ℕ
-committed T w =
+unfoldable pub committedEdges : Table → Window → List ℕ
+committedEdges T w =
     let h = w .shape .height in
     let d = w .shape .distance in
     byPlace (layerEdgesOf h d) (λ i. bit (getD (w .correction) (edgeSlot T h d (sheetsOf d - 1) (edgeOf h d i)) false))
 
 -- the bottom sheet's defects go to the escape buffer, one byte a detector
-unfoldable pub escaped : Window → List ℕ
-escaped w =
+unfoldable pub escapedDefects : Window → List ℕ
+escapedDefects w =
     let h = w .shape .height in
     let d = w .shape .distance in
     byPlace (detectorsOf h d) (λ i. bit (at w (indexOf h d (detectorAt d (sheetsOf d - 1) i)) .defect))
@@ -62,13 +62,13 @@ abbrev pub sunk : ℕ → ℕ → Node → Node
 sunk h d n = record { active = n .active; defect = n .defect; unrooted = false; pointer = n .pointer; mark = lowered h d (n .mark) }
 
 -- the new top sheet is fresh but for the defects, one byte a detector, row by row
-unfoldable pub received : ℕ → ℕ → List ℕ → Place → Node
-received h d bytes q =
+unfoldable pub topNode : ℕ → ℕ → List ℕ → Place → Node
+topNode h d bytes q =
     alone (numberOf h d q) (not (boundary d (q .column)) && eqb (getD bytes (q .row * (d - 1) + (q .column - 1)) 0) 1)
 
 unfoldable pub fallenNode : Window → List ℕ → ℕ → Node
 fallenNode w bytes g =
-    if (ltb g (sheet w)) (received (w .shape .height) (w .shape .distance) bytes (place w g))
+    if (ltb g (sheet w)) (topNode (w .shape .height) (w .shape .distance) bytes (place w g))
     (sunk (w .shape .height) (w .shape .distance) (at w (g - sheet w)))
 
 -- an edge of the new top sheet: one of its own, or a down edge

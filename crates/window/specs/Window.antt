@@ -6,9 +6,9 @@ use lib.Dec.{ltb, eqb}
 use lib.ListN.{getD}
 use Rattle.shape.specs.Sizes.{sheetsOf, boundary, nodesOf}
 use Rattle.shape.specs.Nodes.{indexOf, placeAt}
-use Rattle.shape.specs.Steps.{Table, step, near, slot}
+use Rattle.steps.specs.Steps.{Table, step, near, slot}
 use Rattle.shape.specs.declared.Place.{Place}
-use Rattle.shape.specs.declared.Step.{Step}
+use Rattle.steps.specs.declared.Step.{Step}
 use Rattle.shape.specs.declared.Found.the-variants.{At, Nowhere}
 use Rattle.window.specs.declared.Mark.the-variants.{Reset, Root}
 use Rattle.window.specs.declared.Stage.{Stage}
@@ -55,10 +55,6 @@ reach T h d k p q =
       | At q' ↦ record { there = true; node = indexOf h d q'; slot = slot T h d p q; detector = not (boundary d (q' .column)) }
       | Nowhere ↦ nowhere
     ]
-
--- the pointer of a step has a D
-abbrev pub falls : Table → ℕ → Bool
-falls T p = ltb (step T p .sheet .less) (step T p .sheet .more)
 
 -- the direction in which a node names its edge of a kind
 unfoldable pub naming : List Step → ℕ → ℕ → ℕ

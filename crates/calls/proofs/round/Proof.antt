@@ -3,7 +3,8 @@ use borrow.Author.Needs.{needs}
 use lib.ListN.{length}
 use Rattle.calls.proofs.round.Statement.{statement}
 use Rattle.calls.proofs.round.Tie as tie
-use Rattle.calls.proofs.Rounds.{round-refused, round-fine, round-done, formed-ranged}
+use Rattle.tested.proofs.Round.{round-fine}
+use Rattle.calls.proofs.Rounds.{round-refused, round-done, formed-ranged}
 
 test-round-requires : tie.Need-test-round-requires
 test-round-requires c κs = search needs

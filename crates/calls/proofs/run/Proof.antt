@@ -2,7 +2,7 @@
 use mathlib.Core.Path.{sym, ap}
 use mathlib.Core.Bool.{Bool, not}
 use borrow.Author.Needs.{needs}
-use Rattle.calls.specs.Answers.{ended, rest, spent}
+use Rattle.calls.specs.Answers.{endedBy, rest, spent}
 use Rattle.calls.proofs.Leaves.{run-refused, run-done}
 use Rattle.calls.proofs.run.Statement.{statement}
 use Rattle.calls.proofs.run.Tie as tie
@@ -26,10 +26,10 @@ run-requires : tie.Need-run-requires
 run-requires c κs = search needs
 
 returns-2 : tie.Need-returns-2
-returns-2 c = run-done (c .before .before .before .before .before .before .before .args .w) (c .before .before .before .before .before .before .before .args .budget) (not (c .before .before .before .before .before .before .is-rest .result)) (ap not (c .before .before .before .before .before .before .is-rest .ensures)) (c .before .before .before .before .before .test-state .result) (c .before .before .before .before .before .test-state .ensures) (c .before .before .run .result) (rest (c .before .before .run .result .count)) (c .before .before .before .enum-told .given .1) (c .before .before .run .ensures) (ap (λ (b : Bool). ended b (c .before .before .run .result .count)) (sym (c .if1 .taken)))
+returns-2 c = run-done (c .before .before .before .before .before .before .before .args .w) (c .before .before .before .before .before .before .before .args .budget) (not (c .before .before .before .before .before .before .is-rest .result)) (ap not (c .before .before .before .before .before .before .is-rest .ensures)) (c .before .before .before .before .before .test-state .result) (c .before .before .before .before .before .test-state .ensures) (c .before .before .run .result) (rest (c .before .before .run .result .count)) (c .before .before .before .enum-told .given .1) (c .before .before .run .ensures) (ap (λ (b : Bool). endedBy b (c .before .before .run .result .count)) (sym (c .if1 .taken)))
 
 returns-3 : tie.Need-returns-3
-returns-3 c = run-done (c .before .before .before .before .before .before .before .args .w) (c .before .before .before .before .before .before .before .args .budget) (not (c .before .before .before .before .before .before .is-rest .result)) (ap not (c .before .before .before .before .before .before .is-rest .ensures)) (c .before .before .before .before .before .test-state .result) (c .before .before .before .before .before .test-state .ensures) (c .before .before .run .result) (spent (c .before .before .run .result .count)) (c .before .before .before .enum-told .given .1) (c .before .before .run .ensures) (ap (λ (b : Bool). ended b (c .before .before .run .result .count)) (sym (c .if1 .left)))
+returns-3 c = run-done (c .before .before .before .before .before .before .before .args .w) (c .before .before .before .before .before .before .before .args .budget) (not (c .before .before .before .before .before .before .is-rest .result)) (ap not (c .before .before .before .before .before .before .is-rest .ensures)) (c .before .before .before .before .before .test-state .result) (c .before .before .before .before .before .test-state .ensures) (c .before .before .run .result) (spent (c .before .before .run .result .count)) (c .before .before .before .enum-told .given .1) (c .before .before .run .ensures) (ap (λ (b : Bool). endedBy b (c .before .before .run .result .count)) (sym (c .if1 .left)))
 
 pub run-spec : {M : Type 1} → statement M
 run-spec =

@@ -8,10 +8,10 @@ use borrow.Author.Needs.{needs}
 use lib.ListN.{length}
 use Rattle.refusal.specs.Bytes.{Bytes}
 use Rattle.refusal.specs.Laws.{undone}
-use Rattle.shape.specs.Steps.{base}
-use Rattle.session.specs.Answers.{Passed}
-use Rattle.session.specs.Decoding.{rounds}
-use Rattle.session.specs.Resumed.{onward}
+use Rattle.steps.specs.Steps.{base}
+use Rattle.decoding.specs.Answers.{RoundsReturned}
+use Rattle.decoding.specs.Decoding.{rounds}
+use Rattle.decoding.specs.Resumed.{onward}
 use Rattle.decode.proofs.decode_rounds.Statement.{statement}
 use Rattle.decode.proofs.decode_rounds.Tie as tie
 
@@ -51,8 +51,11 @@ returns c = search needs
 is-full-requires : tie.Need-is-full-requires Inv-loop μ-loop
 is-full-requires c κs = search needs
 
-say-requires : tie.Need-say-requires Inv-loop μ-loop
-say-requires c κs = search needs
+say-unwritten-requires : tie.Need-say-unwritten-requires Inv-loop μ-loop
+say-unwritten-requires c κs = search needs
+
+conclude-requires : tie.Need-conclude-requires Inv-loop μ-loop
+conclude-requires c κs = search needs
 
 same-length-2 : tie.Need-same-length-2 Inv-loop μ-loop
 same-length-2 c = search needs
@@ -73,8 +76,8 @@ loop-less c =
     let r = c .before .before .before .before .before .before .before .before .decode-rounds in
     let o = onward base (a .src .now) (bytes (c .before .before .before .before .before .before .before .before .before .before .before .before)) (length (l .out)) (l .window) (l .at) (l .to) in
     let out = length (rounds base (a .src .now) (length (l .out)) (l .window) (l .at) (l .to) .output) in
-    let n = ap (λ (p : Passed). p .next) (r .ensures) in
-    let e = ap (λ (p : Passed). p .behind) (r .ensures) in
+    let n = ap (λ (p : RoundsReturned). p .next) (r .ensures) in
+    let e = ap (λ (p : RoundsReturned). p .behind) (r .ensures) in
     less (length (a .src .now)) (l .at) (r .result .at) (l .to) out (omega (arith, o .still, n)) (λ p. let g = o .forward p in (omega (arith, g .0, n), omega (arith, g .1, n))) (some (c .before .is-full .result) (r .result .to) (c .if2 .left) e)
 
 loop-again : tie.Need-loop-again Inv-loop μ-loop
@@ -89,10 +92,11 @@ decode-rounds-spec =
     loop-holds
     decode-rounds-requires
     write-front-requires
+    say-unwritten-requires
     same-length
     returns
     is-full-requires
-    say-requires
+    conclude-requires
     same-length-2
     returns-2
     loop-less

@@ -9,15 +9,15 @@ use Rattle.decode.proofs.write_front.Tie as tie
 returns : tie.Need-returns
 returns c = search needs
 
-slice-aggregate-write-all : tie.Need-slice-aggregate-write-all
-slice-aggregate-write-all c = sym (length-take-le _ _ (omega (arith, c .before .if1 .left)))
+slice-aggregate-write-out : tie.Need-slice-aggregate-write-out
+slice-aggregate-write-out c = sym (length-take-le _ _ (omega (arith, c .before .if1 .left)))
 
-write-all-requires : tie.Need-write-all-requires
-write-all-requires c κs = search needs
+write-out-requires : tie.Need-write-out-requires
+write-out-requires c κs = search needs
 
 returns-2 : tie.Need-returns-2
 returns-2 c = search needs
 
 pub write-front-spec : {M : Type 1} → statement M
 write-front-spec =
-    tie.close (tie.spec returns slice-aggregate-write-all write-all-requires returns-2)
+    tie.close (tie.spec returns slice-aggregate-write-out write-out-requires returns-2)

@@ -1,4 +1,6 @@
 -- `exports::baizeridge_read_result` meets its contract. Assumes nothing.
+use mathlib.Core.Path.{ap}
+use Rattle.exports.specs.Calls.{Taken, ResultOut}
 use borrow.Author.Needs.{needs}
 use Rattle.exports.proofs.baizeridge_read_result.Statement.{statement}
 use Rattle.exports.proofs.baizeridge_read_result.Tie as tie
@@ -13,7 +15,8 @@ same-length-2 : tie.Need-same-length-2
 same-length-2 c = search needs
 
 returns : tie.Need-returns
-returns c = let e = c .before .before .before .before .baizeridge-take-result .ensures in (e .0, (e .1 .0, (e .1 .1 .0, e .1 .1 .1 .0)))
+returns c = ap (λ (x : Taken ResultOut). x .out) (c .before .before .before .before .baizeridge-take-result .ensures)
 
 pub baizeridge-read-result-spec : {M : Type 1} → statement M
-baizeridge-read-result-spec = tie.close (tie.spec baizeridge-take-result-requires same-length same-length-2 returns)
+baizeridge-read-result-spec =
+    tie.close (tie.spec baizeridge-take-result-requires same-length same-length-2 returns)

@@ -1,7 +1,5 @@
 -- `exports::baizeridge_write_list` meets its contract. Assumes nothing.
-use mathlib.Core.Path.{_∙_, ap}
-use Rattle.refusal.specs.Writing.{Left}
-use Rattle.exports.specs.Seen.{shown}
+use Rattle.exports.specs.Laws.{buffer-left}
 use borrow.Author.Needs.{needs}
 use Rattle.exports.proofs.baizeridge_write_list.Statement.{statement}
 use Rattle.exports.proofs.baizeridge_write_list.Tie as tie
@@ -16,15 +14,8 @@ same-length : tie.Need-same-length
 same-length c = search needs
 
 returns : tie.Need-returns
-returns c =
-    let e = c .before .before .before .before .write-list .ensures in
-    (c .wrote .ensures ∙ ap (λ (x : Left). shown (x .answer) (c .before .before .before .before .before .before .before .before .args .place .now)) e, ap (λ (x : Left). x .buffer) e)
+returns c = buffer-left (c .before .before .before .before .before .before .before .before .args .place .now) (c .before .before .before .before .write-list .ensures) (c .wrote .ensures)
 
 pub baizeridge-write-list-spec : {M : Type 1} → statement M
 baizeridge-write-list-spec =
-    tie.close
-    (tie.spec
-    write-list-requires
-    wrote-requires
-    same-length
-    returns)
+    tie.close (tie.spec write-list-requires wrote-requires same-length returns)

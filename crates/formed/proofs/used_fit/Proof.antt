@@ -9,7 +9,7 @@ use lib.ListN.{getD}
 use native.Mathlib.Nat.{add-zero, le-antisymm}
 use Rattle.shape.specs.Sizes.{sheetsOf}
 use Rattle.shape.specs.Ranges.{both}
-use Rattle.shape.specs.Steps.{base}
+use Rattle.steps.specs.Steps.{base}
 use Rattle.shape.specs.declared.Place.{Place}
 use Rattle.walk.specs.Walk.{Stands}
 use Rattle.walk.specs.LawsWalk.{first-place, walks, stands, peopled, nodes-max, depth-low, three-kinds, named-east, named-south, named-up}

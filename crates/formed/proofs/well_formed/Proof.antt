@@ -8,7 +8,7 @@ use borrow.Author.Tests.{le-leb, lt-leb, not-true, not-false}
 use lib.ListN.{drop}
 use lib.Dec.{leb}
 use Rattle.shape.specs.Sizes.{sheetsOf, inRange}
-use Rattle.shape.specs.Steps.{base}
+use Rattle.steps.specs.Steps.{base}
 use Rattle.walk.specs.LawsWalk.{nodes-max}
 use Rattle.window.specs.declared.Window.{Window}
 use Rattle.window.specs.Lists.{every, all}

@@ -13,11 +13,18 @@ add-if1 c = search needs
 sheets-requires : tie.Need-sheets-requires
 sheets-requires c κs = search needs
 
+falls-requires : tie.Need-falls-requires
+falls-requires c κs = search needs
+
 returns : tie.Need-returns
-returns c = cut-yes (c .before .before .before .before .args .shape .distance) (c .before .before .before .before .args .place .depth) _ (c .before .before .before .before .args .node) (c .before .before .sheets .ensures) (c .if1 .taken)
+returns c =
+    let a = c .before .before .before .before .args in
+    cut-yes (a .shape .distance) (a .place .depth) _ (a .node) (c .before .before .sheets .ensures) _ (c .before .falls .ensures) (c .if1 .taken)
 
 returns-2 : tie.Need-returns-2
-returns-2 c = cut-no (c .before .before .before .before .args .shape .distance) (c .before .before .before .before .args .place .depth) _ (c .before .before .before .before .args .node) (c .before .before .sheets .ensures) (c .if1 .left)
+returns-2 c =
+    let a = c .before .before .before .before .args in
+    cut-no (a .shape .distance) (a .place .depth) _ (a .node) (c .before .before .sheets .ensures) _ (c .before .falls .ensures) (c .if1 .left)
 
 pub cut-down-spec : {M : Type 1} → statement M
-cut-down-spec = tie.close (tie.spec cast-if1 add-if1 sheets-requires returns returns-2)
+cut-down-spec = tie.close (tie.spec cast-if1 add-if1 sheets-requires falls-requires returns returns-2)

@@ -7,7 +7,7 @@ use native.Mathlib.Omega.{arith}
 use borrow.Author.Needs.{needs}
 use lib.ListN.{length, set, length-map}
 use Rattle.shape.specs.Nodes.{placeAt}
-use Rattle.shape.specs.Steps.{base}
+use Rattle.steps.specs.Steps.{base}
 use Rattle.walk.specs.Walk.{Stands}
 use Rattle.walk.specs.LawsWalk.{first-place, stands-at, stands-low, depth-low, walks-on, ends-low, named-east, named-south, named-up}
 use Rattle.window.specs.Lists.{over}

@@ -5,27 +5,27 @@ use mathlib.Core.List.{List}
 use Prim.Native.Nat.{ℕ}
 use borrow.Author.Needs.{needs}
 use lib.ListN.{length}
-use Rattle.refusal.specs.Writing.{left}
-use Rattle.refusal.specs.Answer.{Answer, passed, isDone, valueOr, itself}
+use Rattle.refusal.specs.Writing.{buffered}
+use Rattle.refusal.specs.Answer.{Answer, withoutValue, isDone, valueOr, itself}
 use Rattle.refusal.specs.Laws.{turned-not, done-passed, value-not}
 use Rattle.refusal.specs.declared.Refusal.{Refusal}
 use Rattle.list.specs.declared.Listed.{Listed}
 use Rattle.list.specs.declared.Listed.the-variants.{To, Refused}
-use Rattle.list.specs.Sheet.{told, listAt, toldRead, into}
+use Rattle.list.specs.Sheet.{listAnswer, listAt, listBuffered, readInto}
 use Rattle.list.proofs.read_list.Statement.{statement}
 use Rattle.list.proofs.read_list.Tie as tie
 
-module _ (a : Answer (List ℕ)) (r : Listed) (e : told r ≡ passed a) where
-  not-listed : (f : Refusal) → r ≡ Refused f → (old : List ℕ) → toldRead r old ≡ into a old
+module _ (a : Answer (List ℕ)) (r : Listed) (e : listAnswer r ≡ withoutValue a) where
+  not-listed : (f : Refusal) → r ≡ Refused f → (old : List ℕ) → listBuffered r old ≡ readInto a old
   not-listed f k old =
-      let no' : isDone a ≡ false = sym (done-passed a) ∙ ap (λ (x : Answer (Unit {0})). isDone x) (sym e ∙ ap told k) ∙ turned-not (Unit {0}) f in
-      ap (λ (x : Answer (Unit {0})). left x old) e ∙ ap (λ (l : List ℕ). left (passed a) l) (sym (value-not a itself old no'))
+      let no' : isDone a ≡ false = sym (done-passed a) ∙ ap (λ (x : Answer (Unit {0})). isDone x) (sym e ∙ ap listAnswer k) ∙ turned-not (Unit {0}) f in
+      ap (λ (x : Answer (Unit {0})). buffered x old) e ∙ ap (λ (l : List ℕ). buffered (withoutValue a) l) (sym (value-not a itself old no'))
 
   listed : (next : ℕ) → r ≡ To next → isDone a ≡ true
-  listed next k = sym (done-passed a) ∙ ap (λ (x : Answer (Unit {0})). isDone x) (sym e ∙ ap told k)
+  listed next k = sym (done-passed a) ∙ ap (λ (x : Answer (Unit {0})). isDone x) (sym e ∙ ap listAnswer k)
 
-  stored : (next : ℕ) → r ≡ To next → (old new : List ℕ) → new ≡ valueOr a itself old → toldRead (To next) new ≡ into a old
-  stored next k old new s = ap (λ (l : List ℕ). toldRead (To next) l) s ∙ ap (λ (x : Answer (Unit {0})). left x (valueOr a itself old)) (ap told (sym k) ∙ e)
+  stored : (next : ℕ) → r ≡ To next → (old new : List ℕ) → new ≡ valueOr a itself old → listBuffered (To next) new ≡ readInto a old
+  stored next k old new s = ap (λ (l : List ℕ). listBuffered (To next) l) s ∙ ap (λ (x : Answer (Unit {0})). buffered x (valueOr a itself old)) (ap listAnswer (sym k) ∙ e)
 
 scan-list-requires : tie.Need-scan-list-requires
 scan-list-requires c κs = search needs

@@ -8,10 +8,10 @@ use borrow.Author.Needs.{needs}
 use borrow.Author.Tests.{ltb-true, ltb-false}
 use lib.Dec.{ltb}
 use lib.ListN.{length, set, replicate, length-set, length-replicate}
-use Rattle.refusal.specs.Answer.{Answer, done, passed, isDone, valueOr, itself}
+use Rattle.refusal.specs.Answer.{Answer, done, withoutValue, isDone, valueOr, itself}
 use Rattle.refusal.specs.Laws.{turned-not, done-passed, undone}
 use Rattle.refusal.specs.declared.Refusal.{Refusal}
-use Rattle.number.specs.Number.{numberAt, told}
+use Rattle.number.specs.Number.{numberAt, numberAnswer}
 use Rattle.number.specs.declared.Read.{Read}
 use Rattle.number.specs.declared.Read.the-variants.{Refused}
 use Rattle.list.specs.Sheet.{entriesAt, listAt}
@@ -23,10 +23,10 @@ apart : (b : Bool) → b ≡ true → b ≡ false → ⊥
 apart b p q = undone (sym p ∙ q)
 
 -- a number that was not read leaves nothing done
-unreadable : (src : List ℕ) (at : ℕ) (r : Read) (f : Refusal) (whole : Answer (List ℕ)) → told r ≡ numberAt src at → r ≡ Refused f
-    → (isDone (numberAt src at) ≡ false → passed whole ≡ passed (numberAt src at)) → isDone whole ≡ true → ⊥
+unreadable : (src : List ℕ) (at : ℕ) (r : Read) (f : Refusal) (whole : Answer (List ℕ)) → numberAnswer r ≡ numberAt src at → r ≡ Refused f
+    → (isDone (numberAt src at) ≡ false → withoutValue whole ≡ withoutValue (numberAt src at)) → isDone whole ≡ true → ⊥
 unreadable src at r f whole e k turned h =
-    let no' : isDone (numberAt src at) ≡ false = ap (λ (a : Answer ℕ). isDone a) (sym e ∙ ap told k) ∙ turned-not ℕ f in
+    let no' : isDone (numberAt src at) ≡ false = ap (λ (a : Answer ℕ). isDone a) (sym e ∙ ap numberAnswer k) ∙ turned-not ℕ f in
     apart (isDone whole) h (sym (done-passed whole) ∙ ap (λ (a : Answer (Unit {0})). isDone a) (turned no') ∙ done-passed (numberAt src at) ∙ no')
 
 -- where the storing stands
@@ -34,10 +34,10 @@ abbrev Storing : List ℕ → ℕ → ℕ → List ℕ → ℕ → ℕ → ℕ �
 Storing src at size out left next from = (entriesAt src left from next out ≡ listAt src size at) × (isDone (listAt src size at) ≡ true) × (length out ≡ size)
 
 module _ (src : List ℕ) (at size : ℕ) (out : List ℕ) (left next from : ℕ) (w : Storing src at size out left next from) (l : 0 < left) where
-  unread : (r : Read) (f : Refusal) → told r ≡ numberAt src next → r ≡ Refused f → ⊥
+  unread : (r : Read) (f : Refusal) → numberAnswer r ≡ numberAt src next → r ≡ Refused f → ⊥
   unread r f e k =
       unreadable src next r f (listAt src size at) e k
-      (λ n. ap (λ (a : Answer (List ℕ)). passed a) (sym (w .0)) ∙ entries-turned src left from next out l n)
+      (λ n. ap (λ (a : Answer (List ℕ)). withoutValue a) (sym (w .0)) ∙ entries-turned src left from next out l n)
       (w .1)
 
   module _ (k behind : ℕ) (d : numberAt src next ≡ done k behind) where
@@ -109,7 +109,7 @@ loop-holds c =
     let s = c .before .before .before .before .before .before .before .before .before .before in
     let a = s .args in
     let r = c .before .before .before .read-number in
-    let d = sym (r .ensures) ∙ ap told (c .before .count .given .1) in
+    let d = sym (r .ensures) ∙ ap numberAnswer (c .before .count .given .1) in
     begins (a .src .now) (length (a .out .now)) (a .at) _ _ (c .before .before .before .before .before .before .clear .last .0) d (s .pre) (c .before .before .before .before .before .before .clear .ensures)
 
 read-number-requires-2 : tie.Need-read-number-requires-2 Inv-loop μ-loop
@@ -139,7 +139,7 @@ add-from c =
     let l = c .before .before .before .before .before .loop in
     let a = c .before .before .before .before .before .before .before .before .before .before .before .before .before .before .before .before .args in
     let r = c .before .before .before .read-number2 in
-    let d = sym (r .ensures) ∙ ap told (c .before .skip .given .1) in
+    let d = sym (r .ensures) ∙ ap numberAnswer (c .before .skip .given .1) in
     omega (arith, inside (a .src .now) (a .at) (length (c .before .before .before .before .before .before .before .before .before .before .before .before .clear .last .0)) (l .out) (l .rest) (l .next) (l .from) (l .inv) (c .before .before .before .before .loop-test .taken) _ _ d, l .inv .2, c .before .before .before .before .before .before .before .before .before .before .before .before .clear .kept .0, c .before .before .before .before .before .before .before .before .before .before .before .before .before .before .before .before .good)
 
 slice-write-out : tie.Need-slice-write-out Inv-loop μ-loop
@@ -147,7 +147,7 @@ slice-write-out c =
     let l = c .before .before .before .before .before .loop in
     let a = c .before .before .before .before .before .before .before .before .before .before .before .before .before .before .before .before .args in
     let r = c .before .before .before .read-number2 in
-    let d = sym (r .ensures) ∙ ap told (c .before .skip .given .1) in
+    let d = sym (r .ensures) ∙ ap numberAnswer (c .before .skip .given .1) in
     inside (a .src .now) (a .at) (length (c .before .before .before .before .before .before .before .before .before .before .before .before .clear .last .0)) (l .out) (l .rest) (l .next) (l .from) (l .inv) (c .before .before .before .before .loop-test .taken) _ _ d
 
 add-from-2 : tie.Need-add-from-2 Inv-loop μ-loop
@@ -155,7 +155,7 @@ add-from-2 c =
     let l = c .before .before .before .before .before .loop in
     let a = c .before .before .before .before .before .before .before .before .before .before .before .before .before .before .before .before .args in
     let r = c .before .before .before .read-number2 in
-    let d = sym (r .ensures) ∙ ap told (c .before .skip .given .1) in
+    let d = sym (r .ensures) ∙ ap numberAnswer (c .before .skip .given .1) in
     omega (arith, inside (a .src .now) (a .at) (length (c .before .before .before .before .before .before .before .before .before .before .before .before .clear .last .0)) (l .out) (l .rest) (l .next) (l .from) (l .inv) (c .before .before .before .before .loop-test .taken) _ _ d, l .inv .2, c .before .before .before .before .before .before .before .before .before .before .before .before .clear .kept .0, c .before .before .before .before .before .before .before .before .before .before .before .before .before .before .before .before .good)
 
 sub-rest : tie.Need-sub-rest Inv-loop μ-loop
@@ -169,7 +169,7 @@ loop-again c =
     let l = c .before .before .before .before .before .loop in
     let a = c .before .before .before .before .before .before .before .before .before .before .before .before .before .before .before .before .args in
     let r = c .before .before .before .read-number2 in
-    let d = sym (r .ensures) ∙ ap told (c .before .skip .given .1) in
+    let d = sym (r .ensures) ∙ ap numberAnswer (c .before .skip .given .1) in
     turns (a .src .now) (a .at) (length (c .before .before .before .before .before .before .before .before .before .before .before .before .clear .last .0)) (l .out) (l .rest) (l .next) (l .from) (l .inv) (c .before .before .before .before .loop-test .taken) _ _ d
 
 same-length-3 : tie.Need-same-length-3 Inv-loop μ-loop

@@ -7,13 +7,13 @@ use borrow.Author.Needs.{needs}
 use borrow.Author.Tests.{not-true}
 use lib.ListN.{length, length-map, getD, replicate}
 use Rattle.shape.specs.Choice.{whether}
-use Rattle.shape.specs.Steps.{base}
+use Rattle.steps.specs.Steps.{base}
 use Rattle.window.specs.Lists.{over, any}
 use Rattle.window.specs.LawsLists.{over-none, over-next, over-three, any-none, any-next}
-use Rattle.window.specs.Window.{size}
+use Rattle.window.specs.Window.{size, at}
 use Rattle.window.specs.declared.Seen.{Seen}
 use Rattle.window.specs.declared.Stepped.{Stepped}
-use Rattle.window.specs.Merging.{nothing, stepAt, flippedSlot, seen as seenFrom}
+use Rattle.window.specs.Merging.{nothing, sees, stepAt, flippedSlot, seen as seenFrom}
 use Rattle.walk.specs.Walk.{Stands}
 use Rattle.walk.specs.LawsWalk.{stands-at, ends-low, nodes-max, named-east, named-south, named-up}
 use Rattle.stir.specs.Stirred.{stirred as stirredBy}
@@ -127,11 +127,11 @@ array-copy-out-other c = way c .0
 element-copy-out-growth : tie.Need-element-copy-out-growth Inv-look μ-look Inv-nodes μ-nodes
 element-copy-out-growth c = way (c .before) .1
 
-cast-look : tie.Need-cast-look Inv-look μ-look Inv-nodes μ-nodes
-cast-look c = search needs
+add-back : tie.Need-add-back Inv-look μ-look Inv-nodes μ-nodes
+add-back c = search needs
 
-array-read-look : tie.Need-array-read-look Inv-look μ-look Inv-nodes μ-nodes
-array-read-look c = search needs
+back-requires : tie.Need-back-requires Inv-look μ-look Inv-nodes μ-nodes
+back-requires c κs = search needs
 
 look-requires : tie.Need-look-requires Inv-look μ-look Inv-nodes μ-nodes
 look-requires c κs = search needs
@@ -153,12 +153,14 @@ look-less c = search needs
 
 look-again : tie.Need-look-again Inv-look μ-look Inv-nodes μ-nodes
 look-again c =
-    let l = c .before .before .before .before .before .look in
-    let i = c .before .before .before .before .before .before .before in
-    let w = c .before .before .before .before .before .before .before .before .before .before .before .before .before .before .before .before .before .before .args .t1 in
-    let g = c .before .before .before .before .before .before .before .before .before .before .nodes .g in
+    let l = c .before .before .before .before .before .before .look in
+    let i = c .before .before .before .before .before .before .before .before in
+    let w = c .before .before .before .before .before .before .before .before .before .before .before .before .before .before .before .before .before .before .before .args .t1 in
+    let g = c .before .before .before .before .before .before .before .before .before .before .before .nodes .g in
+    let y = c .before .before .before .before .reach .result in
+    let read : c .look2 .result ≡ sees y (getD (w .growth) (y .slot) 0) (at w (y .node)) (c .before .back .result) = c .look2 .ensures in
     let v : c .look2 .result ≡ seenFrom base w g (l .k)
-    = c .look2 .ensures ∙ seen-by w g _ (i .place-at .ensures) (l .k) _ (c .before .before .before .before .look-test .taken) (c .before .before .before .reach .ensures) in
+    = read ∙ seen-by w g _ (i .place-at .ensures) (l .k) _ _ (c .before .before .before .before .reach .ensures) (c .before .back .ensures) in
     (omega arith, over-next (seenFrom base w g) (replicate 6 nothing) (l .k) _ _ (omega arith) (l .inv .1) v)
 
 is-boundary-requires : tie.Need-is-boundary-requires Inv-look μ-look Inv-nodes μ-nodes
@@ -299,8 +301,8 @@ merge-spec =
     mul-other
     array-copy-out-other
     element-copy-out-growth
-    cast-look
-    array-read-look
+    add-back
+    back-requires
     look-requires
     cast-seen
     mul-seen

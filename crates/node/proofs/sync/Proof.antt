@@ -3,7 +3,7 @@ use mathlib.Core.Path.{_≡_}
 use native.Mathlib.Omega.{arith}
 use borrow.Author.Needs.{needs}
 use lib.ListN.{length}
-use Rattle.node.proofs.Directions.{synced-centre, synced-past, synced-at}
+use Rattle.node.proofs.Syncing.{synced-centre, synced-past, synced-at}
 use Rattle.node.proofs.sync.Statement.{statement}
 use Rattle.node.proofs.sync.Tie as tie
 

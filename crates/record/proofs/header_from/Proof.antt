@@ -2,7 +2,7 @@
 use mathlib.Core.Path.{sym, _∙_, ap}
 use native.Mathlib.Omega.{arith}
 use borrow.Author.Tests.{not-true, not-false}
-use Rattle.number.specs.Number.{told}
+use Rattle.number.specs.Number.{numberAnswer}
 use Rattle.shape.specs.Ranges.{height-ok, distance-ok}
 use Rattle.record.specs.Laws.{header-high, header-turned, header-far, header-done}
 use borrow.Author.Needs.{needs}
@@ -32,7 +32,7 @@ distance-ok-requires c κs = search needs
 returns-2 : tie.Need-returns-2
 returns-2 c =
     let a = c .before .before .before .before .before .before .before .before .before .args in
-    sym (header-far (a .src .now) (a .height) (a .at) (sym (c .before .before .before .before .before .before .before .height-ok .ensures) ∙ not-false _ (c .before .before .before .before .before .before .if1 .left)) _ _ (sym (c .before .before .before .before .before .read-number .ensures) ∙ ap told (c .before .before .before .distance .given .1)) (sym (c .before .distance-ok .ensures) ∙ not-true _ (c .if2 .taken)))
+    sym (header-far (a .src .now) (a .height) (a .at) (sym (c .before .before .before .before .before .before .before .height-ok .ensures) ∙ not-false _ (c .before .before .before .before .before .before .if1 .left)) _ _ (sym (c .before .before .before .before .before .read-number .ensures) ∙ ap numberAnswer (c .before .before .before .distance .given .1)) (sym (c .before .distance-ok .ensures) ∙ not-true _ (c .if2 .taken)))
 
 cast-t15 : tie.Need-cast-t15
 cast-t15 c =
@@ -45,12 +45,12 @@ cast-t16 c =
 returns-3 : tie.Need-returns-3
 returns-3 c =
     let a = c .before .before .before .before .before .before .before .args in
-    sym (header-turned (a .src .now) (a .height) (a .at) (sym (c .before .before .before .before .before .height-ok .ensures) ∙ not-false _ (c .before .before .before .before .if1 .left)) (c .before .f .given .0 .0) (sym (c .before .before .before .read-number .ensures) ∙ ap told (c .before .f .given .1)))
+    sym (header-turned (a .src .now) (a .height) (a .at) (sym (c .before .before .before .before .before .height-ok .ensures) ∙ not-false _ (c .before .before .before .before .if1 .left)) (c .before .f .given .0 .0) (sym (c .before .before .before .read-number .ensures) ∙ ap numberAnswer (c .before .f .given .1)))
 
 returns-4 : tie.Need-returns-4
 returns-4 c =
     let a = c .before .before .before .before .before .before .before .before .before .args in
-    sym (header-done (a .src .now) (a .height) (a .at) (sym (c .before .before .before .before .before .before .before .height-ok .ensures) ∙ not-false _ (c .before .before .before .before .before .before .if1 .left)) _ _ (sym (c .before .before .before .before .before .read-number .ensures) ∙ ap told (c .before .before .before .distance .given .1)) (sym (c .before .distance-ok .ensures) ∙ not-false _ (c .if2 .left)))
+    sym (header-done (a .src .now) (a .height) (a .at) (sym (c .before .before .before .before .before .before .before .height-ok .ensures) ∙ not-false _ (c .before .before .before .before .before .before .if1 .left)) _ _ (sym (c .before .before .before .before .before .read-number .ensures) ∙ ap numberAnswer (c .before .before .before .distance .given .1)) (sym (c .before .distance-ok .ensures) ∙ not-false _ (c .if2 .left)))
 
 pub header-from-spec : {M : Type 1} → statement M
 header-from-spec =

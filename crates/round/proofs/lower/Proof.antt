@@ -2,7 +2,7 @@
 use native.Mathlib.Omega.{arith}
 use borrow.Author.Needs.{needs}
 use Rattle.shape.specs.Ranges.{ranged}
-use Rattle.shape.specs.LawsLayer.{detectors-le}
+use Rattle.shape.specs.LawsSizes.{detectors-le}
 use Rattle.round.specs.LawsFall.{lower-side, lower-ghost, lower-inner, lower-past, sides-le, boundary-le, inner-le}
 use Rattle.round.proofs.lower.Statement.{statement}
 use Rattle.round.proofs.lower.Tie as tie

@@ -8,17 +8,17 @@ use borrow.Author.Needs.{needs}
 use lib.ListN.{length, set, length-map}
 use Rattle.shape.specs.Sizes.{nodesOf, inRange}
 use Rattle.shape.specs.Ranges.{in-range}
-use Rattle.shape.specs.Steps.{base}
+use Rattle.steps.specs.Steps.{base}
 use Rattle.shape.specs.declared.Place.{Place}
 use Rattle.walk.specs.LawsWalk.{first-place, walks-on, stands-at, peopled, nodes-max, depth-low}
 use Rattle.window.specs.Lists.{over}
 use Rattle.window.specs.LawsLists.{over-none, over-next}
 use Rattle.window.specs.Window.{sheet, at, place}
-use Rattle.window.specs.Round.{received, sunk, fallenNode, rounded}
+use Rattle.window.specs.Round.{topNode, sunk, fallenNode, rounded}
 use Rattle.window.specs.declared.Node.{Node}
 use Rattle.window.specs.declared.Stage.the-variants.{ToGrow}
 use Rattle.window.specs.declared.Window.{Window}
-use Rattle.round.specs.Slots.{sheetNodes, fallen}
+use Rattle.slots.specs.Slots.{sheetNodes, fallen}
 use Rattle.round.specs.LawsFall.{fallen-top, fallen-low, sheet-is, two-sheets, same-slots}
 use Rattle.round.proofs.sink.Statement.{statement}
 use Rattle.round.proofs.sink.Tie as tie
@@ -61,7 +61,7 @@ module _ (w : Window) (n k : ℕ) (size : n ≡ nodesOf (w .shape .height) (w .s
           let t = over-next (fallenNode w bytes) (w .nodes) g (over g (fallenNode w bytes) (w .nodes)) x f refl e in
           rw so-far (ap (falling w) t)
 
-      turns-top : (q : Place) (x : Node) → g < k → (1 ≤ w .shape .height → q ≡ place w g) → x ≡ received (w .shape .height) (w .shape .distance) bytes q
+      turns-top : (q : Place) (x : Node) → g < k → (1 ≤ w .shape .height → q ≡ place w g) → x ≡ topNode (w .shape .height) (w .shape .distance) bytes q
           → Fallen w bytes (record { shape = v .shape; stage = v .stage; next = v .next; nodes = set (v .nodes) g x; growth = v .growth; correction = v .correction }) (g + 1)
       turns-top q x m e f = let t : g < sheet w = omega (arith, k-is) in stored x (fallen-top w bytes g q x t (e (peopled (w .shape .height) (w .shape .distance) g there .h1)) f)
 

@@ -5,7 +5,7 @@ use Prim.Native.Nat.{ℕ, _≤_, _<_, _-_, _+_}
 use native.Mathlib.Nat.{sub-zero}
 use native.Mathlib.Omega.{arith}
 use borrow.Author.Needs.{needs}
-use Rattle.shape.specs.Steps.{base}
+use Rattle.steps.specs.Steps.{base}
 use Rattle.window.specs.Window.{isRest}
 use Rattle.window.specs.Merging.{merged}
 use Rattle.window.specs.Run.{stepsFrom}

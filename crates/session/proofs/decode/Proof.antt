@@ -2,9 +2,9 @@
 use mathlib.Core.Path.{sym, _∙_, ap}
 use native.Mathlib.Omega.{arith}
 use borrow.Author.Needs.{needs}
-use Rattle.record.specs.Calls.{toldHeader}
-use Rattle.window.specs.Calls.{told}
-use Rattle.session.specs.Answers.{toldLine}
+use Rattle.record.specs.Calls.{headerAnswer}
+use Rattle.window.specs.Calls.{callAnswer}
+use Rattle.decoding.specs.Answers.{lineOf}
 use Rattle.session.proofs.Whole.{Put, header-refused, header-full, rounds-behind}
 use Rattle.session.proofs.decode.Statement.{statement}
 use Rattle.session.proofs.decode.Tie as tie
@@ -19,7 +19,7 @@ put c =
     let r = h .before .before in
     record {
       stream = λ i l. omega (arith, r .before .before .shared-slice-known .given i);
-      read = sym (r .read-header .ensures) ∙ ap toldHeader (h .shape .given .1);
+      read = sym (r .read-header .ensures) ∙ ap headerAnswer (h .shape .given .1);
       put = c .write-header .ensures;
     }
 
@@ -73,8 +73,8 @@ returns-3 c =
     let r = c .before .before in
     let f = r .before .before .before in
     let t = f .before .before .before .before in
-    rounds-behind _ _ _ _ _ _ (put (t .before .before .before .before)) (t .to .given .0 .0) (t .to .given .1) (told (f .fresh .result .answer)) (f .fresh .result .window) (f .fresh .ensures)
-    (toldLine (r .decode-rounds .result .ending)) (r .decode-rounds .result .window) (r .decode-rounds .result .at) (r .decode-rounds .result .to) (r .decode-rounds .last .1 .1 .1 .0) (r .decode-rounds .ensures)
+    rounds-behind _ _ _ _ _ _ (put (t .before .before .before .before)) (t .to .given .0 .0) (t .to .given .1) (callAnswer (f .fresh .result .answer)) (f .fresh .result .window) (f .fresh .ensures)
+    (lineOf (r .decode-rounds .result .ending)) (r .decode-rounds .result .window) (r .decode-rounds .result .at) (r .decode-rounds .result .to) (r .decode-rounds .last .1 .1 .1 .0) (r .decode-rounds .ensures)
 
 pub decode-spec : {M : Type 1} → statement M
 decode-spec =

@@ -5,10 +5,10 @@ use Prim.Native.Nat.{_-_}
 use native.Mathlib.Omega.{arith}
 use borrow.Author.Needs.{needs}
 use lib.ListN.{length}
-use Rattle.shape.specs.Steps.{base}
+use Rattle.steps.specs.Steps.{base}
 use Rattle.window.specs.Formed.{wellFormed}
-use Rattle.session.specs.Answers.{toldLine, toldRecord, roundsLeave}
-use Rattle.session.proofs.Passing.{Onward, pass-end, pass-stop, pass-on}
+use Rattle.decoding.specs.Answers.{lineOf, recordAnswer, roundsLeave}
+use Rattle.session.proofs.Passing.{Onward, pass-stop, pass-on}
 use Rattle.session.proofs.rounds_formed.Statement.{statement}
 use Rattle.session.proofs.rounds_formed.Tie as tie
 
@@ -22,19 +22,19 @@ abbrev μ-loop : tie.MeasureT-loop
 -- a record was written
 on : (c : tie.After-answer2 Inv-loop μ-loop) →
     let r = c .before .before .before .before in
-    let l = r .before .before .before .loop in
-    Onward (r .before .before .before .before .before .before .args .src .now) (l .window) (l .i) (l .out) (l .j) (r .decode-formed .result .window) (c .answer2 .given .0 .0) (r .decode-formed .last .1 .1 .1 .0) (c .answer2 .given .0 .1 .0)
+    let l = r .before .before .loop in
+    Onward (r .before .before .before .before .before .args .src .now) (l .window) (l .i) (l .out) (l .j) (r .decode-formed .result .window) (c .answer2 .given .0 .0) (r .decode-formed .last .1 .1 .1 .0) (c .answer2 .given .0 .1 .0)
 on c =
     let r = c .before .before .before .before in
-    let l = r .before .before .before .loop in
-    pass-on _ (l .window) (l .i) (l .out) (l .j) (toldRecord (r .decode-formed .result .answer)) (r .decode-formed .result .window) (r .decode-formed .last .1 .1 .1 .0) (r .decode-formed .ensures)
-    (λ i k. omega (arith, r .before .before .before .before .before .shared-slice-known .given i)) _ _ (ap toldRecord (c .answer2 .given .1))
+    let l = r .before .before .loop in
+    pass-on _ (l .window) (l .i) (l .out) (l .j) (recordAnswer (r .decode-formed .result .answer)) (r .decode-formed .result .window) (r .decode-formed .last .1 .1 .1 .0) (r .decode-formed .ensures)
+    (λ i k. omega (arith, r .before .before .before .before .shared-slice-known .given i)) _ _ (ap recordAnswer (c .answer2 .given .1))
 
 loop-holds : tie.Need-loop-holds Inv-loop μ-loop
 loop-holds c = (c .before .before .pre, refl, refl)
 
 decode-formed-requires : tie.Need-decode-formed-requires Inv-loop μ-loop
-decode-formed-requires c κs = (c .before .before .loop .inv .0, c .before .loop-test .taken)
+decode-formed-requires c κs = c .before .loop .inv .0
 
 enum-known-answer : tie.Need-enum-known-answer Inv-loop μ-loop
 enum-known-answer c = search needs
@@ -45,9 +45,9 @@ same-length c = search needs
 returns : tie.Need-returns Inv-loop μ-loop
 returns c =
     let r = c .before .before .before .before .before in
-    let l = r .before .before .before .loop in
-    pass-stop (r .before .before .before .before .before .before .args .src .now) (l .window) (l .i) (l .out) (l .j) (toldRecord (r .decode-formed .result .answer)) (r .decode-formed .result .window) (r .decode-formed .last .1 .1 .1 .0) (r .decode-formed .ensures)
-    (toldLine (c .before .answer .given .0 .0)) (ap toldRecord (c .before .answer .given .1))
+    let l = r .before .before .loop in
+    pass-stop (r .before .before .before .before .before .args .src .now) (l .window) (l .i) (l .out) (l .j) (recordAnswer (r .decode-formed .result .answer)) (r .decode-formed .result .window) (r .decode-formed .last .1 .1 .1 .0) (r .decode-formed .ensures)
+    (lineOf (c .before .answer .given .0 .0)) (ap recordAnswer (c .before .answer .given .1))
     ∙ sym (l .inv .2)
 
 enum-known-answer-2 : tie.Need-enum-known-answer-2 Inv-loop μ-loop
@@ -59,14 +59,8 @@ loop-less c = let o = on (c .before .before) in omega (arith, o .forward, o .ins
 loop-again : tie.Need-loop-again Inv-loop μ-loop
 loop-again c =
     let o = on (c .before .before) in
-    let l = c .before .before .before .before .before .before .before .before .before .loop in
+    let l = c .before .before .before .before .before .before .before .before .loop in
     (o .formed, o .long ∙ l .inv .1, l .inv .2 ∙ o .same)
-
-same-length-2 : tie.Need-same-length-2 Inv-loop μ-loop
-same-length-2 c = c .before .loop .inv .1
-
-returns-2 : tie.Need-returns-2 Inv-loop μ-loop
-returns-2 c = let l = c .before .loop in pass-end (c .before .before .before .before .args .src .now) (l .window) (l .i) (l .out) (l .j) (c .loop-test .left) ∙ sym (l .inv .2)
 
 pub rounds-formed-spec : {M : Type 1} → statement M
 rounds-formed-spec =
@@ -81,6 +75,4 @@ rounds-formed-spec =
     returns
     enum-known-answer-2
     loop-less
-    loop-again
-    same-length-2
-    returns-2)
+    loop-again)

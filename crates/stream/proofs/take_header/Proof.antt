@@ -43,21 +43,21 @@ use denote.Exit.{yes}
 use denote.Triple.Clauses.{ensured, lasts}
 use Rattle.refusal.specs.Answer.{nextOr}
 use Rattle.record.specs.Records.{headerAt}
-use Rattle.record.specs.Calls.{toldHeader}
-use Rattle.stream.specs.Reader.{moved}
+use Rattle.record.specs.Calls.{headerAnswer}
+use Rattle.reader.specs.Reader.{moved}
 use Rattle.record.specs.declared.HeaderRead.{HeaderRead}
-use Rattle.stream.specs.declared.Reader.{Reader}
-use Rattle.stream.specs.declared.HeaderNext.{HeaderNext}
+use Rattle.reader.specs.declared.Reader.{Reader}
+use Rattle.reader.specs.declared.HeaderNext.{HeaderNext}
 use Rattle.record.proofs.HeaderRead as S
 use Rattle.record.proofs.HeaderRead.Laws as S′
-use Rattle.stream.proofs.HeaderNext as N
-use Rattle.stream.proofs.HeaderNext.Laws as N′
-use Rattle.stream.proofs.Reader.Laws as T′
-use Rattle.stream.proofs.Carried.{slice, Own, Slice, carries, parted}
-use Rattle.stream.proofs.Reader.header as header
-use Rattle.stream.proofs.Reader.header.Symbol as header-def
-use Rattle.stream.proofs.Reader.header.Symbol.{name as #stream·Reader·header}
-use Rattle.stream.proofs.Reader.header.Met as header-thm
+use Rattle.reader.proofs.HeaderNext as N
+use Rattle.reader.proofs.HeaderNext.Laws as N′
+use Rattle.reader.proofs.Reader.Laws as T′
+use Rattle.reader.proofs.Carried.{slice, Own, Slice, carries, parted}
+use Rattle.reader.proofs.Reader.header as header
+use Rattle.reader.proofs.Reader.header.Symbol as header-def
+use Rattle.reader.proofs.Reader.header.Symbol.{name as #reader·Reader·header}
+use Rattle.reader.proofs.Reader.header.Met as header-thm
 use Rattle.stream.proofs.take_header.Key.{name as #stream·take-header}
 use Rattle.stream.proofs.take_header as take-header
 use Rattle.stream.proofs.take_header.Statement as stated
@@ -104,7 +104,7 @@ module _ {M : Type 1} (𝓤 : URA M) (H : Heap 𝓤) (A : Atoms 𝓤) (W : Given
   asked = qed W (‵ (Own α d) ∷ ‵ (flft κ q) ∷ []) ∵ nothing ! $ move ! (1 ∷ 0 ∷ []) $ fjoin ! $ nothing ! $ move ! (2 ∷ 0 ∷ []) $ join ! $ move ! (0 ∷ 1 ∷ []) $ join ! $ frame ! $ done !
 
   abbrev Found : HeaderNext → Type 0
-  Found x = (toldHeader (x .answer) ≡ headerAt (now s) n) × (x .reader ≡ moved d (toldHeader (x .answer)))
+  Found x = (headerAnswer (x .answer) ≡ headerAt (now s) n) × (x .reader ≡ moved d (headerAnswer (x .answer)))
 
   said : (x : HeaderNext) → ent 𝓤 (ensured 𝓤 H A header.ended (header.clauses 𝓤 H A at-mem run) (κ, tt) (d, tt) tt x) (fact 𝓤 (Found x))
   said x = exE 𝓤 _ (λ ws. snd∗ 𝓤 (sem 𝓤 H A (lasts header.ended (κ, tt) (d, tt) ws)) (fact 𝓤 (Found x)))
@@ -116,7 +116,7 @@ module _ {M : Type 1} (𝓤 : URA M) (H : Heap 𝓤) (A : Atoms 𝓤) (W : Given
   typed : (r : HeaderRead) → Is S.the-row r (low r ∷ []) → Holds (hasTy S′.mir (low r)) × WT (low r)
   typed r is = EL.lawful S.the-type S′.the-laws 𝓤 H A W tt .typed r _ is .0
 
-  exits : (r : HeaderRead) (m : ℕ) → Is S.the-row r (low r ∷ []) → (toldHeader r ≡ headerAt (now s) n) × (m ≡ nextOr (toldHeader r) n)
+  exits : (r : HeaderRead) (m : ℕ) → Is S.the-row r (low r ∷ []) → (headerAnswer r ≡ headerAt (now s) n) × (m ≡ nextOr (headerAnswer r) n)
       → ent 𝓤 (⋆ 𝓤 H A (‵ (fobs γ (gnum m)) ∷ ‵ (fbor κ′ (Body (mem usize) b o γ)) ∷ ‵ (flft κ′ q′) ∷ (‵ (flft κ q) ⊛ ‵ ftrue) ∷ ‵ (Slice α d) ∷ [])) (Post (low r))
   exits r m is e =
       qed W (‵ (fobs γ (gnum m)) ∷ ‵ (fbor κ′ (Body (mem usize) b o γ)) ∷ ‵ (flft κ′ q′) ∷ (‵ (flft κ q) ⊛ ‵ ftrue) ∷ ‵ (Slice α d) ∷ []) ∵
@@ -126,7 +126,7 @@ module _ {M : Type 1} (𝓤 : URA M) (H : Heap 𝓤) (A : Atoms 𝓤) (W : Given
       feqI ! (List Val) (vptr b o ∷ []) (vptr b o ∷ []) refl $ fjoin3 ! $ nothing ! $ move ! (1 ∷ 0 ∷ []) $ fjoin ! $ move ! (1 ∷ 0 ∷ []) $ fjoin ! $
       owned ! S.the-row (Is S.the-row) (EL.makes S.the-type S′.the-plain 𝓤 H A) r (low r ∷ []) is $ move ! (1 ∷ 0 ∷ []) $ done !
 
-  module _ (C : Calls 𝓤 H) (Λ : Loops 𝓤 H) (fm : FmC 𝓤 H (W .laws) C) (known : Triple 𝓤 (C #stream·Reader·header) (Header 𝓤 H A at-mem run)) where
+  module _ (C : Calls 𝓤 H) (Λ : Loops 𝓤 H) (fm : FmC 𝓤 H (W .laws) C) (known : Triple 𝓤 (C #reader·Reader·header) (Header 𝓤 H A at-mem run)) where
     walk : Holds (hasTy (sliceTy (tyRef (named 0) imm (tyInt w8))) (slice d)) × WT (slice d) → ent 𝓤 (onEntry 𝓤 H A take-header.signature (κ, (κ′, tt)) (q, (q′, tt)) a vals) (WpFn 𝓤 H C Λ code.function (slice d ∷ vptr b o ∷ []) Post)
     walk wt =
         qed W ((‵ (flft κ q) ⊛ ‵ (flft κ′ q′) ⊛ ‵ ftrue) ∷ ‵ (owns (ShrSlice (named 0) κ u8 ∷ MutRef (named 1) κ′ usize ∷ []) a vals) ∷ []) ∵ enter ! C Λ code.function (slice d ∷ vptr b o ∷ []) _ $
@@ -157,13 +157,13 @@ module _ {M : Type 1} (𝓤 : URA M) (H : Heap 𝓤) (A : Atoms 𝓤) (W : Given
         keep ! (0 ∷ 1 ∷ 2 ∷ 3 ∷ 4 ∷ []) $ by ! (exits (x .answer) (x .reader .at) (parts .1 .0) (e .0, ap (λ (r : Reader). r .at) (e .1))))))))))))))))
 
 module _ {M : Type 1} (𝓤 : URA M) (H : Heap 𝓤) (A : Atoms 𝓤) (W : Given 𝓤 H A) (mem : Memory → SProp 𝓤) (run : Routine → Fun 𝓤) where
-  take-header-walks : (C : Calls 𝓤 H) (Λ : Loops 𝓤 H) → FmC 𝓤 H (W .laws) C → Triple 𝓤 (C #stream·Reader·header) (Header 𝓤 H A mem run)
+  take-header-walks : (C : Calls 𝓤 H) (Λ : Loops 𝓤 H) → FmC 𝓤 H (W .laws) C → Triple 𝓤 (C #reader·Reader·header) (Header 𝓤 H A mem run)
       → Walks 𝓤 H A take-header.ended stayed (WpFn 𝓤 H C Λ code.function) (take-header.clauses 𝓤 H A mem run)
   take-header-walks C Λ fm known = walked 𝓤 H A take-header.ended stayed (take-header.clauses 𝓤 H A mem run) (WpFn 𝓤 H C Λ code.function) (λ κs. (slice-vals, (ptr-vals, tt))) (λ κs. (shr-slice-tells (named 0) (κs .0) u8, (mut-tells (named 1) (κs .1 .0) usize, tt)))
       (λ κs qs bounds a g are. via 𝓤 _ (fst∗ 𝓤 _ (emp 𝓤)) (walk 𝓤 H A W mem run (κs .0) (κs .1 .0) (qs .0) (qs .1 .0) (a .0) (a .1 .0 .ptr .0) (a .1 .0 .ptr .1) (a .1 .0 .name) (a .1 .0 .now) C Λ fm known (shr-slice-lawful 𝓤 H A W (named 0) (κs .0) u8 .typed (a .0) _ (are .0) .0)))
 
 take-header-meets : {M : Type 1} (𝓤 : URA M) (H : Heap 𝓤) (A : Atoms 𝓤) (W : Given 𝓤 H A) (mem : Memory → SProp 𝓤) (run : Routine → Fun 𝓤) (𝓣 : Tables 𝓤 H)
-    → Triple 𝓤 (𝓣 .C #stream·Reader·header) (Header 𝓤 H A mem run)
+    → Triple 𝓤 (𝓣 .C #reader·Reader·header) (Header 𝓤 H A mem run)
     → Meets 𝓤 H A take-header.signature (WpFn 𝓤 H (𝓣 .C) (𝓣 .Λ) code.function) (take-header.spec 𝓤 H A mem run)
 take-header-meets 𝓤 H A W mem run 𝓣 known = walk-meets 𝓤 H A take-header.ended stayed W (goes-none-slice 𝓤 H A W 2 (0 ∷ []) tt (plain (λ _. u8)) yes, (goes-ref 𝓤 H A W 2 1 tt (plain (λ _. usize)), tt)) (take-header.clauses 𝓤 H A mem run) (WpFn 𝓤 H (𝓣 .C) (𝓣 .Λ) code.function) (WpFn-mono 𝓤 H (W .laws) 𝓣 code.function)
     (take-header-walks 𝓤 H A W mem run (𝓣 .C) (𝓣 .Λ) (fmOf 𝓤 H (W .laws) 𝓣) known)
@@ -174,4 +174,4 @@ take-header-spec 𝓤 H 𝓜 𝓖 𝓡 =
     entered 𝓤 H (tripleOf 𝓤 H (𝓖 .A) take-header.signature (take-header.spec 𝓤 H (𝓖 .A) (𝓜 .mem) (𝓡 .run)))
     (tables 𝓤 H 𝓜 𝓡 code.env .C) (tables 𝓤 H 𝓜 𝓡 code.env .Λ) #stream·take-header code.function (code.unfolded 𝓤 H 𝓜 𝓡)
     (take-header-meets 𝓤 H (𝓖 .A) (givenOf 𝓤 H 𝓜 𝓖) (𝓜 .mem) (𝓡 .run) (tablesOf 𝓤 H 𝓜 (tables 𝓤 H 𝓜 𝓡 code.env))
-    (cited 𝓤 H (Header 𝓤 H (𝓖 .A) (𝓜 .mem) (𝓡 .run)) 𝓜 𝓡 code.env #stream·Reader·header header-def.routine code.calls-stream·Reader·header (header-thm.met 𝓤 H 𝓜 𝓖 𝓡)))
+    (cited 𝓤 H (Header 𝓤 H (𝓖 .A) (𝓜 .mem) (𝓡 .run)) 𝓜 𝓡 code.env #reader·Reader·header header-def.routine code.calls-reader·Reader·header (header-thm.met 𝓤 H 𝓜 𝓖 𝓡)))

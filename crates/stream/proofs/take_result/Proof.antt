@@ -46,21 +46,21 @@ use Rattle.shape.specs.declared.Shape.{Shape}
 use Rattle.shape.proofs.Shape as P
 use Rattle.shape.proofs.Shape.Laws as P′
 use Rattle.refusal.specs.Answer.{nextOr}
-use Rattle.record.specs.Calls.{toldResult, committed, readResult}
-use Rattle.stream.specs.Reader.{moved}
+use Rattle.record.specs.Calls.{resultAnswer, resultBuffered, readResult}
+use Rattle.reader.specs.Reader.{moved}
 use Rattle.record.specs.declared.ResultRead.{ResultRead}
-use Rattle.stream.specs.declared.Reader.{Reader}
-use Rattle.stream.specs.declared.ResultNext.{ResultNext}
+use Rattle.reader.specs.declared.Reader.{Reader}
+use Rattle.reader.specs.declared.ResultNext.{ResultNext}
 use Rattle.record.proofs.ResultRead as S
 use Rattle.record.proofs.ResultRead.Laws as S′
-use Rattle.stream.proofs.ResultNext as N
-use Rattle.stream.proofs.ResultNext.Laws as N′
-use Rattle.stream.proofs.Reader.Laws as T′
-use Rattle.stream.proofs.Carried.{slice, Own, Slice, carries, parted}
-use Rattle.stream.proofs.Reader.result as result
-use Rattle.stream.proofs.Reader.result.Symbol as result-def
-use Rattle.stream.proofs.Reader.result.Symbol.{name as #stream·Reader·result}
-use Rattle.stream.proofs.Reader.result.Met as result-thm
+use Rattle.reader.proofs.ResultNext as N
+use Rattle.reader.proofs.ResultNext.Laws as N′
+use Rattle.reader.proofs.Reader.Laws as T′
+use Rattle.reader.proofs.Carried.{slice, Own, Slice, carries, parted}
+use Rattle.reader.proofs.Reader.result as result
+use Rattle.reader.proofs.Reader.result.Symbol as result-def
+use Rattle.reader.proofs.Reader.result.Symbol.{name as #reader·Reader·result}
+use Rattle.reader.proofs.Reader.result.Met as result-thm
 use Rattle.stream.proofs.take_result.Key.{name as #stream·take-result}
 use Rattle.stream.proofs.take_result as take-result
 use Rattle.stream.proofs.take_result.Statement as stated
@@ -119,10 +119,10 @@ module _ {M : Type 1} (𝓤 : URA M) (H : Heap 𝓤) (A : Atoms 𝓤) (W : Given
       owned ! P.the-row (Is P.the-row) (LL.makes P.the-type P′.the-plain 𝓤 H A) sh _ sized $ move ! (0 ∷ 3 ∷ []) $ fjoin ! $ move ! (2 ∷ 0 ∷ []) $ fjoin ! $ move ! (1 ∷ 0 ∷ []) $ join ! $ frame ! $ done !
 
   abbrev Said : ResultRead → List ℕ → List ℕ → Type 0
-  Said r xs ys = committed (toldResult r) xs ys ≡ readResult sh (now src) n (now x) (now y)
+  Said r xs ys = resultBuffered (resultAnswer r) xs ys ≡ readResult sh (now src) n (now x) (now y)
 
   abbrev Found : ResultNext → List ℕ → List ℕ → Type 0
-  Found w xs ys = Said (w .answer) xs ys × (w .reader ≡ moved d (toldResult (w .answer)))
+  Found w xs ys = Said (w .answer) xs ys × (w .reader ≡ moved d (resultAnswer (w .answer)))
 
   -- the machine value of an answer, and its MIR type
   abbrev low : ResultRead → Val
@@ -131,7 +131,7 @@ module _ {M : Type 1} (𝓤 : URA M) (H : Heap 𝓤) (A : Atoms 𝓤) (W : Given
   typed : (r : ResultRead) → Is S.the-row r (low r ∷ []) → Holds (hasTy S′.mir (low r)) × WT (low r)
   typed r is = EL.lawful S.the-type S′.the-laws 𝓤 H A W tt .typed r _ is .0
 
-  exits : (r : ResultRead) (m : ℕ) (xs ys : List ℕ) → Is S.the-row r (low r ∷ []) → Said r xs ys × (m ≡ nextOr (toldResult r) n) → length xs ≡ length (now x) → length ys ≡ length (now y)
+  exits : (r : ResultRead) (m : ℕ) (xs ys : List ℕ) → Is S.the-row r (low r ∷ []) → Said r xs ys × (m ≡ nextOr (resultAnswer r) n) → length xs ≡ length (now x) → length ys ≡ length (now y)
       → ent 𝓤 (⋆ 𝓤 H A (‵ (fobs γ (gnum m)) ∷ ‵ (fbor κ′ (Body (mem usize) b o γ)) ∷ ‵ (flft κ′ q′) ∷ (‵ (flft κ q) ⊛ ‵ (flft κ₁ q₁) ⊛ ‵ (flft κ₂ q₂) ⊛ ‵ ftrue) ∷ ‵ (fsep (finally u8 (x .name) xs) (fsep (finally u8 (y .name) ys) ftrue)) ∷ ‵ (Slice α d) ∷ [])) (Post (low r))
   exits r m xs ys is e lx ly =
       qed W (‵ (fobs γ (gnum m)) ∷ ‵ (fbor κ′ (Body (mem usize) b o γ)) ∷ ‵ (flft κ′ q′) ∷ (‵ (flft κ q) ⊛ ‵ (flft κ₁ q₁) ⊛ ‵ (flft κ₂ q₂) ⊛ ‵ ftrue) ∷ ‵ (fsep (finally u8 (x .name) xs) (fsep (finally u8 (y .name) ys) ftrue)) ∷ ‵ (Slice α d) ∷ []) ∵
@@ -141,7 +141,7 @@ module _ {M : Type 1} (𝓤 : URA M) (H : Heap 𝓤) (A : Atoms 𝓤) (W : Given
       feqI ! (List Val) (vptr b o ∷ []) (vptr b o ∷ []) refl $ fjoin3 ! $ fjoin ! $ move ! (1 ∷ 0 ∷ []) $ fjoin ! $ owned ! P.the-row (Is P.the-row) (LL.makes P.the-type P′.the-plain 𝓤 H A) sh _ sized $ fjoin ! $
       owned ! S.the-row (Is S.the-row) (EL.makes S.the-type S′.the-plain 𝓤 H A) r (low r ∷ []) is $ move ! (1 ∷ 0 ∷ []) $ done !
 
-  module _ (C : Calls 𝓤 H) (Λ : Loops 𝓤 H) (fm : FmC 𝓤 H (W .laws) C) (known : Triple 𝓤 (C #stream·Reader·result) (Result 𝓤 H A at-mem run)) where
+  module _ (C : Calls 𝓤 H) (Λ : Loops 𝓤 H) (fm : FmC 𝓤 H (W .laws) C) (known : Triple 𝓤 (C #reader·Reader·result) (Result 𝓤 H A at-mem run)) where
     walk : Holds (hasTy (sliceTy (tyRef (named 0) imm (tyInt w8))) (slice d)) × WT (slice d) → Room u8 (length (now x)) → Room u8 (length (now y)) → ent 𝓤 (onEntry 𝓤 H A take-result.signature (κ, (κ′, (κ₁, (κ₂, tt)))) (q, (q′, (q₁, (q₂, tt)))) a vals) (WpFn 𝓤 H C Λ code.function (P′.lowered sh ∷ slice d ∷ vptr b o ∷ s ∷ t ∷ []) Post)
     walk wt room room′ =
         qed W ((‵ (flft κ q) ⊛ ‵ (flft κ′ q′) ⊛ ‵ (flft κ₁ q₁) ⊛ ‵ (flft κ₂ q₂) ⊛ ‵ ftrue) ∷ ‵ (owns (P.the-row ∷ ShrSlice (named 0) κ u8 ∷ MutRef (named 1) κ′ usize ∷ MutSlice (named 2) κ₁ u8 ∷ MutSlice (named 3) κ₂ u8 ∷ []) a vals) ∷ []) ∵ enter ! C Λ code.function (P′.lowered sh ∷ slice d ∷ vptr b o ∷ s ∷ t ∷ []) _ $
@@ -180,7 +180,7 @@ module _ {M : Type 1} (𝓤 : URA M) (H : Heap 𝓤) (A : Atoms 𝓤) (W : Given
         by ! (exits (w .answer) (w .reader .at) (zs .1 .1 .0) (zs .1 .1 .1 .0) (parts .1 .0) (e .0, ap (λ (r : Reader). r .at) (e .1)) lx ly))))))))))))))))))))))))
 
 module _ {M : Type 1} (𝓤 : URA M) (H : Heap 𝓤) (A : Atoms 𝓤) (W : Given 𝓤 H A) (mem : Memory → SProp 𝓤) (run : Routine → Fun 𝓤) where
-  take-result-walks : (C : Calls 𝓤 H) (Λ : Loops 𝓤 H) → FmC 𝓤 H (W .laws) C → Triple 𝓤 (C #stream·Reader·result) (Result 𝓤 H A mem run)
+  take-result-walks : (C : Calls 𝓤 H) (Λ : Loops 𝓤 H) → FmC 𝓤 H (W .laws) C → Triple 𝓤 (C #reader·Reader·result) (Result 𝓤 H A mem run)
       → Walks 𝓤 H A take-result.ended stayed (WpFn 𝓤 H C Λ code.function) (take-result.clauses 𝓤 H A mem run)
   take-result-walks C Λ fm known = walked 𝓤 H A take-result.ended stayed (take-result.clauses 𝓤 H A mem run) (WpFn 𝓤 H C Λ code.function)
       (λ κs. (LL.vals P.the-type P′.the-laws, (slice-vals, (ptr-vals, (slice-vals, (slice-vals, tt))))))
@@ -188,7 +188,7 @@ module _ {M : Type 1} (𝓤 : URA M) (H : Heap 𝓤) (A : Atoms 𝓤) (W : Given
       (λ κs qs bounds a g are. via 𝓤 _ (fst∗ 𝓤 _ (emp 𝓤)) (walk 𝓤 H A W mem run (κs .0) (κs .1 .0) (κs .1 .1 .0) (κs .1 .1 .1 .0) (qs .0) (qs .1 .0) (qs .1 .1 .0) (qs .1 .1 .1 .0) (a .0) (a .1 .0) (a .1 .1 .0 .ptr .0) (a .1 .1 .0 .ptr .1) (a .1 .1 .0 .name) (a .1 .1 .0 .now) (a .1 .1 .1 .0) (a .1 .1 .1 .1 .0) (are .0) C Λ fm known (shr-slice-lawful 𝓤 H A W (named 0) (κs .0) u8 .typed (a .1 .0) _ (are .1 .0) .0) (are .1 .1 .1 .0 .0 .1) (are .1 .1 .1 .1 .0 .0 .1)))
 
 take-result-meets : {M : Type 1} (𝓤 : URA M) (H : Heap 𝓤) (A : Atoms 𝓤) (W : Given 𝓤 H A) (mem : Memory → SProp 𝓤) (run : Routine → Fun 𝓤) (𝓣 : Tables 𝓤 H)
-    → Triple 𝓤 (𝓣 .C #stream·Reader·result) (Result 𝓤 H A mem run)
+    → Triple 𝓤 (𝓣 .C #reader·Reader·result) (Result 𝓤 H A mem run)
     → Meets 𝓤 H A take-result.signature (WpFn 𝓤 H (𝓣 .C) (𝓣 .Λ) code.function) (take-result.spec 𝓤 H A mem run)
 take-result-meets 𝓤 H A W mem run 𝓣 known =
     walk-meets 𝓤 H A take-result.ended stayed W (goes-none 𝓤 H A W 4 (λ _. P.the-row) yes (λ κs x f. refl), (goes-none-slice 𝓤 H A W 4 (0 ∷ []) tt (plain (λ _. u8)) yes, (goes-ref 𝓤 H A W 4 1 tt (plain (λ _. usize)), (goes-gave-slice 𝓤 H A W 4 2 tt (plain (λ _. u8)), (goes-gave-slice 𝓤 H A W 4 3 tt (plain (λ _. u8)), tt))))) (take-result.clauses 𝓤 H A mem run) (WpFn 𝓤 H (𝓣 .C) (𝓣 .Λ) code.function) (WpFn-mono 𝓤 H (W .laws) 𝓣 code.function)
@@ -200,4 +200,4 @@ take-result-spec 𝓤 H 𝓜 𝓖 𝓡 =
     entered 𝓤 H (tripleOf 𝓤 H (𝓖 .A) take-result.signature (take-result.spec 𝓤 H (𝓖 .A) (𝓜 .mem) (𝓡 .run)))
     (tables 𝓤 H 𝓜 𝓡 code.env .C) (tables 𝓤 H 𝓜 𝓡 code.env .Λ) #stream·take-result code.function (code.unfolded 𝓤 H 𝓜 𝓡)
     (take-result-meets 𝓤 H (𝓖 .A) (givenOf 𝓤 H 𝓜 𝓖) (𝓜 .mem) (𝓡 .run) (tablesOf 𝓤 H 𝓜 (tables 𝓤 H 𝓜 𝓡 code.env))
-    (cited 𝓤 H (Result 𝓤 H (𝓖 .A) (𝓜 .mem) (𝓡 .run)) 𝓜 𝓡 code.env #stream·Reader·result result-def.routine code.calls-stream·Reader·result (result-thm.met 𝓤 H 𝓜 𝓖 𝓡)))
+    (cited 𝓤 H (Result 𝓤 H (𝓖 .A) (𝓜 .mem) (𝓡 .run)) 𝓜 𝓡 code.env #reader·Reader·result result-def.routine code.calls-reader·Reader·result (result-thm.met 𝓤 H 𝓜 𝓖 𝓡)))

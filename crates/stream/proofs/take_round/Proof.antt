@@ -46,22 +46,22 @@ use Rattle.shape.specs.declared.Shape.{Shape}
 use Rattle.shape.proofs.Shape as P
 use Rattle.shape.proofs.Shape.Laws as P′
 use Rattle.refusal.specs.Answer.{nextOr}
-use Rattle.refusal.specs.Writing.{left}
-use Rattle.record.specs.Calls.{toldRound, readRound}
-use Rattle.stream.specs.Reader.{moved}
+use Rattle.refusal.specs.Writing.{buffered}
+use Rattle.record.specs.Calls.{roundAnswer, readRound}
+use Rattle.reader.specs.Reader.{moved}
 use Rattle.record.specs.declared.RoundRead.{RoundRead}
-use Rattle.stream.specs.declared.Reader.{Reader}
-use Rattle.stream.specs.declared.RoundNext.{RoundNext}
+use Rattle.reader.specs.declared.Reader.{Reader}
+use Rattle.reader.specs.declared.RoundNext.{RoundNext}
 use Rattle.record.proofs.RoundRead as S
 use Rattle.record.proofs.RoundRead.Laws as S′
-use Rattle.stream.proofs.RoundNext as N
-use Rattle.stream.proofs.RoundNext.Laws as N′
-use Rattle.stream.proofs.Reader.Laws as T′
-use Rattle.stream.proofs.Carried.{slice, Own, Slice, carries, parted}
-use Rattle.stream.proofs.Reader.round as round
-use Rattle.stream.proofs.Reader.round.Symbol as round-def
-use Rattle.stream.proofs.Reader.round.Symbol.{name as #stream·Reader·round}
-use Rattle.stream.proofs.Reader.round.Met as round-thm
+use Rattle.reader.proofs.RoundNext as N
+use Rattle.reader.proofs.RoundNext.Laws as N′
+use Rattle.reader.proofs.Reader.Laws as T′
+use Rattle.reader.proofs.Carried.{slice, Own, Slice, carries, parted}
+use Rattle.reader.proofs.Reader.round as round
+use Rattle.reader.proofs.Reader.round.Symbol as round-def
+use Rattle.reader.proofs.Reader.round.Symbol.{name as #reader·Reader·round}
+use Rattle.reader.proofs.Reader.round.Met as round-thm
 use Rattle.stream.proofs.take_round.Key.{name as #stream·take-round}
 use Rattle.stream.proofs.take_round as take-round
 use Rattle.stream.proofs.take_round.Statement as stated
@@ -117,10 +117,10 @@ module _ {M : Type 1} (𝓤 : URA M) (H : Heap 𝓤) (A : Atoms 𝓤) (W : Given
       owned ! P.the-row (Is P.the-row) (LL.makes P.the-type P′.the-plain 𝓤 H A) sh _ sized $ move ! (0 ∷ 3 ∷ []) $ fjoin ! $ move ! (2 ∷ 0 ∷ []) $ fjoin ! $ move ! (1 ∷ 0 ∷ []) $ join ! $ frame ! $ done !
 
   abbrev Said : RoundRead → List ℕ → Type 0
-  Said r zs = left (toldRound r) zs ≡ readRound sh (now src) n (now x)
+  Said r zs = buffered (roundAnswer r) zs ≡ readRound sh (now src) n (now x)
 
   abbrev Found : RoundNext → List ℕ → Type 0
-  Found w zs = Said (w .answer) zs × (w .reader ≡ moved d (toldRound (w .answer)))
+  Found w zs = Said (w .answer) zs × (w .reader ≡ moved d (roundAnswer (w .answer)))
 
   -- the machine value of an answer, and its MIR type
   abbrev low : RoundRead → Val
@@ -129,7 +129,7 @@ module _ {M : Type 1} (𝓤 : URA M) (H : Heap 𝓤) (A : Atoms 𝓤) (W : Given
   typed : (r : RoundRead) → Is S.the-row r (low r ∷ []) → Holds (hasTy S′.mir (low r)) × WT (low r)
   typed r is = EL.lawful S.the-type S′.the-laws 𝓤 H A W tt .typed r _ is .0
 
-  exits : (r : RoundRead) (m : ℕ) (zs : List ℕ) → Is S.the-row r (low r ∷ []) → Said r zs × (m ≡ nextOr (toldRound r) n) → length zs ≡ length (now x)
+  exits : (r : RoundRead) (m : ℕ) (zs : List ℕ) → Is S.the-row r (low r ∷ []) → Said r zs × (m ≡ nextOr (roundAnswer r) n) → length zs ≡ length (now x)
       → ent 𝓤 (⋆ 𝓤 H A (‵ (fobs γ (gnum m)) ∷ ‵ (fbor κ′ (Body (mem usize) b o γ)) ∷ ‵ (flft κ′ q′) ∷ (‵ (flft κ q) ⊛ ‵ (flft κ″ q″) ⊛ ‵ ftrue) ∷ ‵ (fsep (finally u8 (x .name) zs) ftrue) ∷ ‵ (Slice α d) ∷ [])) (Post (low r))
   exits r m zs is e l =
       qed W (‵ (fobs γ (gnum m)) ∷ ‵ (fbor κ′ (Body (mem usize) b o γ)) ∷ ‵ (flft κ′ q′) ∷ (‵ (flft κ q) ⊛ ‵ (flft κ″ q″) ⊛ ‵ ftrue) ∷ ‵ (fsep (finally u8 (x .name) zs) ftrue) ∷ ‵ (Slice α d) ∷ []) ∵
@@ -139,7 +139,7 @@ module _ {M : Type 1} (𝓤 : URA M) (H : Heap 𝓤) (A : Atoms 𝓤) (W : Given
       feqI ! (List Val) (vptr b o ∷ []) (vptr b o ∷ []) refl $ fjoin3 ! $ fjoin ! $ move ! (1 ∷ 0 ∷ []) $ fjoin ! $ owned ! P.the-row (Is P.the-row) (LL.makes P.the-type P′.the-plain 𝓤 H A) sh _ sized $ fjoin ! $
       owned ! S.the-row (Is S.the-row) (EL.makes S.the-type S′.the-plain 𝓤 H A) r (low r ∷ []) is $ move ! (1 ∷ 0 ∷ []) $ done !
 
-  module _ (C : Calls 𝓤 H) (Λ : Loops 𝓤 H) (fm : FmC 𝓤 H (W .laws) C) (known : Triple 𝓤 (C #stream·Reader·round) (Round 𝓤 H A at-mem run)) where
+  module _ (C : Calls 𝓤 H) (Λ : Loops 𝓤 H) (fm : FmC 𝓤 H (W .laws) C) (known : Triple 𝓤 (C #reader·Reader·round) (Round 𝓤 H A at-mem run)) where
     walk : Holds (hasTy (sliceTy (tyRef (named 0) imm (tyInt w8))) (slice d)) × WT (slice d) → Room u8 (length (now x)) → ent 𝓤 (onEntry 𝓤 H A take-round.signature (κ, (κ′, (κ″, tt))) (q, (q′, (q″, tt))) a vals) (WpFn 𝓤 H C Λ code.function (P′.lowered sh ∷ slice d ∷ vptr b o ∷ s ∷ []) Post)
     walk wt room =
         qed W ((‵ (flft κ q) ⊛ ‵ (flft κ′ q′) ⊛ ‵ (flft κ″ q″) ⊛ ‵ ftrue) ∷ ‵ (owns (P.the-row ∷ ShrSlice (named 0) κ u8 ∷ MutRef (named 1) κ′ usize ∷ MutSlice (named 2) κ″ u8 ∷ []) a vals) ∷ []) ∵ enter ! C Λ code.function (P′.lowered sh ∷ slice d ∷ vptr b o ∷ s ∷ []) _ $
@@ -175,7 +175,7 @@ module _ {M : Type 1} (𝓤 : URA M) (H : Heap 𝓤) (A : Atoms 𝓤) (W : Given
         by ! (exits (w .answer) (w .reader .at) (zs .1 .1 .0) (parts .1 .0) (e .0, ap (λ (r : Reader). r .at) (e .1)) l))))))))))))))))))))
 
 module _ {M : Type 1} (𝓤 : URA M) (H : Heap 𝓤) (A : Atoms 𝓤) (W : Given 𝓤 H A) (mem : Memory → SProp 𝓤) (run : Routine → Fun 𝓤) where
-  take-round-walks : (C : Calls 𝓤 H) (Λ : Loops 𝓤 H) → FmC 𝓤 H (W .laws) C → Triple 𝓤 (C #stream·Reader·round) (Round 𝓤 H A mem run)
+  take-round-walks : (C : Calls 𝓤 H) (Λ : Loops 𝓤 H) → FmC 𝓤 H (W .laws) C → Triple 𝓤 (C #reader·Reader·round) (Round 𝓤 H A mem run)
       → Walks 𝓤 H A take-round.ended stayed (WpFn 𝓤 H C Λ code.function) (take-round.clauses 𝓤 H A mem run)
   take-round-walks C Λ fm known = walked 𝓤 H A take-round.ended stayed (take-round.clauses 𝓤 H A mem run) (WpFn 𝓤 H C Λ code.function)
       (λ κs. (LL.vals P.the-type P′.the-laws, (slice-vals, (ptr-vals, (slice-vals, tt)))))
@@ -183,7 +183,7 @@ module _ {M : Type 1} (𝓤 : URA M) (H : Heap 𝓤) (A : Atoms 𝓤) (W : Given
       (λ κs qs bounds a g are. via 𝓤 _ (fst∗ 𝓤 _ (emp 𝓤)) (walk 𝓤 H A W mem run (κs .0) (κs .1 .0) (κs .1 .1 .0) (qs .0) (qs .1 .0) (qs .1 .1 .0) (a .0) (a .1 .0) (a .1 .1 .0 .ptr .0) (a .1 .1 .0 .ptr .1) (a .1 .1 .0 .name) (a .1 .1 .0 .now) (a .1 .1 .1 .0) (are .0) C Λ fm known (shr-slice-lawful 𝓤 H A W (named 0) (κs .0) u8 .typed (a .1 .0) _ (are .1 .0) .0) (are .1 .1 .1 .0 .0 .1)))
 
 take-round-meets : {M : Type 1} (𝓤 : URA M) (H : Heap 𝓤) (A : Atoms 𝓤) (W : Given 𝓤 H A) (mem : Memory → SProp 𝓤) (run : Routine → Fun 𝓤) (𝓣 : Tables 𝓤 H)
-    → Triple 𝓤 (𝓣 .C #stream·Reader·round) (Round 𝓤 H A mem run)
+    → Triple 𝓤 (𝓣 .C #reader·Reader·round) (Round 𝓤 H A mem run)
     → Meets 𝓤 H A take-round.signature (WpFn 𝓤 H (𝓣 .C) (𝓣 .Λ) code.function) (take-round.spec 𝓤 H A mem run)
 take-round-meets 𝓤 H A W mem run 𝓣 known =
     walk-meets 𝓤 H A take-round.ended stayed W (goes-none 𝓤 H A W 3 (λ _. P.the-row) yes (λ κs x f. refl), (goes-none-slice 𝓤 H A W 3 (0 ∷ []) tt (plain (λ _. u8)) yes, (goes-ref 𝓤 H A W 3 1 tt (plain (λ _. usize)), (goes-gave-slice 𝓤 H A W 3 2 tt (plain (λ _. u8)), tt)))) (take-round.clauses 𝓤 H A mem run) (WpFn 𝓤 H (𝓣 .C) (𝓣 .Λ) code.function) (WpFn-mono 𝓤 H (W .laws) 𝓣 code.function)
@@ -195,4 +195,4 @@ take-round-spec 𝓤 H 𝓜 𝓖 𝓡 =
     entered 𝓤 H (tripleOf 𝓤 H (𝓖 .A) take-round.signature (take-round.spec 𝓤 H (𝓖 .A) (𝓜 .mem) (𝓡 .run)))
     (tables 𝓤 H 𝓜 𝓡 code.env .C) (tables 𝓤 H 𝓜 𝓡 code.env .Λ) #stream·take-round code.function (code.unfolded 𝓤 H 𝓜 𝓡)
     (take-round-meets 𝓤 H (𝓖 .A) (givenOf 𝓤 H 𝓜 𝓖) (𝓜 .mem) (𝓡 .run) (tablesOf 𝓤 H 𝓜 (tables 𝓤 H 𝓜 𝓡 code.env))
-    (cited 𝓤 H (Round 𝓤 H (𝓖 .A) (𝓜 .mem) (𝓡 .run)) 𝓜 𝓡 code.env #stream·Reader·round round-def.routine code.calls-stream·Reader·round (round-thm.met 𝓤 H 𝓜 𝓖 𝓡)))
+    (cited 𝓤 H (Round 𝓤 H (𝓖 .A) (𝓜 .mem) (𝓡 .run)) 𝓜 𝓡 code.env #reader·Reader·round round-def.routine code.calls-reader·Reader·round (round-thm.met 𝓤 H 𝓜 𝓖 𝓡)))

@@ -5,7 +5,7 @@ use borrow.Author.Needs.{needs}
 use Rattle.walk.proofs.reach.Statement.{statement}
 use Rattle.walk.proofs.reach.Tie as tie
 use Rattle.shape.specs.Sizes.{sheetsOf}
-use Rattle.shape.specs.Steps.{base}
+use Rattle.steps.specs.Steps.{base}
 use Rattle.window.specs.Window.{reach}
 use Rattle.walk.specs.Ways.{other-none, stays-put}
 

@@ -1,0 +1,18 @@
+-- the law reaches the code
+pub mod Link
+-- the statement
+pub mod Account
+-- one record, round after round, piece after piece; what was read
+pub mod ByCalls
+pub mod Ends
+pub mod Follow
+pub mod Resumed
+pub mod Front
+-- the law's numbers in the streams
+pub mod Sums
+pub mod Balance
+-- the proof
+pub mod Theorem
+-- what a caller is left with, and document 01's first session
+pub mod Handed
+pub mod Witness

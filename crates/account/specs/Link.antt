@@ -1,0 +1,116 @@
+-- THE LAW REACHES THE CODE: what a call's promise says is left is what the law's list of calls goes on with. Each hypothesis below is a promise
+-- of crate `calls`, word for word, with its left side named; done and refused calls alike. Assumes nothing.
+use Prim.Native.Nat.{ℕ}
+use mathlib.Core.Path.{_≡_, refl, sym, _∙_, ap, ap₂, subst}
+use mathlib.Core.Bool.{Bool}
+use mathlib.Core.List.{List, [], _∷_, _++_, append-nil}
+use Rattle.refusal.specs.Answer.{Answer, done, ended, refused, refusedAt, withoutValue, valueOr, itself}
+use Rattle.refusal.specs.Done.{never}
+use Rattle.steps.specs.Steps.{Table, base}
+use Rattle.window.specs.Fresh.{noWindow}
+use Rattle.window.specs.Calls.{Answered, Round, windowOf, edgesOf, escapesOf, leaves, freshCall, roundCall, growCall}
+use Rattle.window.specs.declared.Window.{Window}
+use Rattle.calls.specs.Answers.{RoundReturned, roundReturned, roundLeaves, mergingLeaves, Ended, runLeaves}
+use Rattle.law.specs.Law.{Call, round, grow, merging, run, Receipt, Played, receiptOf, returned, receipted, play, start, Law, Demand3}
+use Rattle.law.specs.Play.{play-append}
+use Rattle.law.specs.Theorem.{demand3}
+
+-- THE RECEIPT that a round call's promise gives: its bytes, and both buffers as the promise says that they are left; none where it is refused
+abbrev pub receiptIn : List ℕ → RoundReturned → List Receipt
+receiptIn bytes x = valueOr (x .answer) (λ u. record { bytes = bytes; edges = x .edges; escapes = x .escapes } ∷ []) []
+
+-- ONE CALL: the window and the receipt that the law goes on with, on the right, are those of the promise, on the left
+pub record Linked (T : Table) : Type 0 where
+  pub rounds : (w : Window) (bytes edges escapes : List ℕ) → roundLeaves T w bytes edges escapes .window ≡ returned T w (round bytes edges escapes)
+  pub receipts : (w : Window) (bytes edges escapes : List ℕ) → receiptIn bytes (roundLeaves T w bytes edges escapes) ≡ receipted T w (round bytes edges escapes)
+  pub grows : (w : Window) → leaves (growCall T w) itself w .window ≡ returned T w grow
+  pub mergings : (w : Window) → mergingLeaves T w .window ≡ returned T w merging
+  pub runs : (w : Window) (budget : ℕ) → runLeaves T w budget .window ≡ returned T w (run budget)
+  -- a fresh window that is done is one that the law starts from
+  pub fresh : (height distance n : ℕ) → leaves (freshCall height distance) itself noWindow .answer ≡ done tt n
+      → freshCall height distance ≡ done (leaves (freshCall height distance) itself noWindow .window) n
+
+-- LISTS OF CALLS, by their promises alone: what is left, and the receipts, after calls that each get the window as the last one returned it
+pub data Promised (T : Table) (fresh : Window) : Played → Type 0 where
+  at-start : Promised T fresh (start fresh)
+  after-round : (p : Played) → Promised T fresh p → (bytes edges escapes : List ℕ) (x : RoundReturned)
+      → x ≡ roundLeaves T (p .window) bytes edges escapes
+      → Promised T fresh (record { window = x .window; receipts = p .receipts ++ receiptIn bytes x })
+  after-grow : (p : Played) → Promised T fresh p → (x : Answered (Unit {0}))
+      → x ≡ leaves (growCall T (p .window)) itself (p .window)
+      → Promised T fresh (record { window = x .window; receipts = p .receipts })
+  after-merging : (p : Played) → Promised T fresh p → (x : Answered Bool)
+      → x ≡ mergingLeaves T (p .window)
+      → Promised T fresh (record { window = x .window; receipts = p .receipts })
+  after-run : (p : Played) → Promised T fresh p → (budget : ℕ) (x : Answered Ended)
+      → x ≡ runLeaves T (p .window) budget
+      → Promised T fresh (record { window = x .window; receipts = p .receipts })
+
+-- the law holds after them, if the promise of the fresh window says that it is done
+abbrev pub Reaches : Table → Type 0
+Reaches T = (height distance n : ℕ) (x : Answered (Unit {0})) → x ≡ leaves (freshCall height distance) itself noWindow → x .answer ≡ done tt n
+    → (p : Played) → Promised T (x .window) p → Law T (x .window) p
+
+-- THE PROOF
+
+receipt-is : (a : Answer Round) (w : Window) (bytes edges escapes : List ℕ)
+    → receiptIn bytes (roundReturned (withoutValue a) (valueOr a windowOf w) (valueOr a edgesOf edges) (valueOr a escapesOf escapes)) ≡ valueOr a (λ r. receiptOf bytes r ∷ []) []
+receipt-is (done r n) w bytes edges escapes = refl
+receipt-is ended w bytes edges escapes = refl
+receipt-is (refused n) w bytes edges escapes = refl
+receipt-is (refusedAt n at) w bytes edges escapes = refl
+
+fresh-is : (a : Answer Window) (n : ℕ) → leaves a itself noWindow .answer ≡ done tt n → a ≡ done (leaves a itself noWindow .window) n
+fresh-is (done w m) n e = let k : m ≡ n = cc in ap (λ (i : ℕ). done w i) k
+fresh-is ended n e = absurd (never e refl)
+fresh-is (refused m) n e = absurd (never e refl)
+fresh-is (refusedAt m at) n e = absurd (never e refl)
+
+pub linked : (T : Table) → Linked T
+linked T =
+    record {
+      rounds = λ w bytes edges escapes. refl;
+      receipts = λ w bytes edges escapes. receipt-is (roundCall T w bytes edges escapes) w bytes edges escapes;
+      grows = λ w. refl;
+      mergings = λ w. refl;
+      runs = λ w budget. refl;
+      fresh = λ height distance n e. fresh-is (freshCall height distance) n e;
+    }
+
+module _ (T : Table) (fresh : Window) where
+  -- a list of calls that leaves it
+  abbrev Listed : Played → Type 0
+  Listed p = (calls : List Call) × (play T (start fresh) calls ≡ p)
+
+  one-more : (p : Played) (c : Call) (w : Window) (receipts : List Receipt) → w ≡ returned T (p .window) c → receipts ≡ receipted T (p .window) c
+      → Listed p → Listed (record { window = w; receipts = p .receipts ++ receipts })
+  unfolding play
+  one-more p c w receipts e f l = (
+    l .0 ++ (c ∷ []),
+    play-append T (start fresh) (l .0) (c ∷ [])
+        ∙ ap (λ (q : Played). play T q (c ∷ [])) (l .1)
+        ∙ ap₂ (λ (v : Window) (r : List Receipt). record { window = v; receipts = p .receipts ++ r }) (sym e) (sym f),
+  )
+
+  unreceipted : (p : Played) (c : Call) (w : Window) → w ≡ returned T (p .window) c → [] ≡ receipted T (p .window) c → Listed p → Listed (record { window = w; receipts = p .receipts })
+  unreceipted p c w e f l = subst (λ (r : List Receipt). Listed (record { window = w; receipts = r })) (append-nil (p .receipts)) (one-more p c w [] e f l)
+
+  listed : (p : Played) → Promised T fresh p → Listed p
+  unfolding play
+  listed _ at-start = ([], refl)
+  listed _ (after-round p k bytes edges escapes x e) =
+      one-more p (round bytes edges escapes) (x .window) (receiptIn bytes x) (ap (λ (y : RoundReturned). y .window) e)
+      (ap (receiptIn bytes) e ∙ linked T .receipts (p .window) bytes edges escapes) (listed p k)
+  listed _ (after-grow p k x e) = unreceipted p grow (x .window) (ap (λ (y : Answered (Unit {0})). y .window) e) refl (listed p k)
+  listed _ (after-merging p k x e) = unreceipted p merging (x .window) (ap (λ (y : Answered Bool). y .window) e) refl (listed p k)
+  listed _ (after-run p k budget x e) = unreceipted p (run budget) (x .window) (ap (λ (y : Answered Ended). y .window) e) refl (listed p k)
+
+reaches : (T : Table) → Demand3 T → Reaches T
+reaches T law height distance n x e d p k =
+    let f : freshCall height distance ≡ done (x .window) n =
+    linked T .fresh height distance n (ap (λ (y : Answered (Unit {0})). y .answer) (sym e) ∙ d) ∙ ap (λ (y : Answered (Unit {0})). done (y .window) n) (sym e) in
+    let l = listed T (x .window) p k in
+    subst (Law T (x .window)) (l .1) (law height distance (x .window) n f (l .0))
+
+pub reached : Reaches base
+reached = reaches base demand3

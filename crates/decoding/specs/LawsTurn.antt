@@ -1,0 +1,141 @@
+-- A round of the stream received and run: no call refuses it, and what leaves can be written. Assumes nothing.
+use Prim.Native.Nat.{ℕ, zero, suc, _-_, _≤_, _<_}
+use native.Mathlib.Omega.{arith}
+use mathlib.Core.Path.{_≡_, refl, _∙_, ap}
+use mathlib.Core.Bool.{Bool, true, false, not}
+use mathlib.Core.List.{List}
+use borrow.Author.Tests.{lt-ltb, eq-eqb}
+use lib.ListN.{length, getD, replicate, length-replicate}
+use Rattle.refusal.specs.Answer.{Answer, done, andThen}
+use Rattle.refusal.specs.Done.{goes-on}
+use Rattle.list.specs.Sheet.{areBits}
+use Rattle.list.specs.Laws.{bits-one}
+use Rattle.layers.specs.Layer.{edgeOf}
+use Rattle.shape.specs.Nodes.{indexOf}
+use Rattle.shape.specs.Sizes.{sheetsOf, detectorsOf, layerEdgesOf}
+use Rattle.steps.specs.Steps.{Table}
+use Rattle.record.specs.Records.{roundAt}
+use Rattle.window.specs.Lists.{from, byPlace, bit}
+use Rattle.window.specs.LawsLists.{length-by}
+use Rattle.window.specs.Window.{isRest, at}
+use Rattle.window.specs.Formed.{wellFormed}
+use Rattle.window.specs.Round.{edgeSlot, detectorAt, rounded, committedEdges, escapedDefects}
+use Rattle.window.specs.Run.{ran}
+use Rattle.window.specs.Calls.{Round, roundTests, roundCall, stateTests, runCall}
+use Rattle.window.specs.declared.Ran.{Ran}
+use Rattle.window.specs.declared.Window.{Window}
+use Rattle.closure.specs.Round.{round}
+use Rattle.closure.specs.Run.{run}
+use Rattle.closure.specs.Suited.{Suited}
+use Rattle.decoding.specs.Decoding.{budget, Turn, turnOf, turnAt}
+use Rattle.decoding.specs.LawsTests.{hold-pass}
+
+-- THE SIZES of a sheet and of a layer
+
+module _ (w : Window) where
+  abbrev pub detectors : ℕ
+  detectors = detectorsOf (w .shape .height) (w .shape .distance)
+
+  abbrev pub edges : ℕ
+  edges = layerEdgesOf (w .shape .height) (w .shape .distance)
+
+-- WHAT LEAVES has its size, and each byte is 0 or 1
+
+bit-small : (b : Bool) → bit b ≤ 1
+bit-small true = omega arith
+bit-small false = omega arith
+
+bits-from : (f : ℕ → Bool) (i n : ℕ) → areBits (from i n (λ k. bit (f k))) ≡ true
+unfolding from areBits
+bits-from f i zero = refl
+bits-from f i (suc n) = bits-one (bit (f i)) (from (suc i) n (λ k. bit (f k))) (bit-small (f i)) ∙ bits-from f (suc i) n
+
+-- bytes by a rule of bits
+record Bits (n : ℕ) (xs : List ℕ) : Type 0 where
+  rule : ℕ → Bool
+  bytes : xs ≡ byPlace n (λ k. bit (rule k))
+
+module _ (n : ℕ) (xs : List ℕ) (b : Bits n xs) where
+  bits-long : length xs ≡ n
+  bits-long = ap length (b .bytes) ∙ length-by _ n
+
+  bits-fine : areBits xs ≡ true
+  unfolding byPlace
+  bits-fine = ap areBits (b .bytes) ∙ bits-from (b .rule) 0 n
+
+module _ (T : Table) (w : Window) where
+  committed-by : Bits (edges w) (committedEdges T w)
+  unfolding committedEdges
+  committed-by =
+      let h = w .shape .height in
+      let d = w .shape .distance in
+      record { rule = λ i. getD (w .correction) (edgeSlot T h d (sheetsOf d - 1) (edgeOf h d i)) false; bytes = refl }
+
+  pub committed-long : length (committedEdges T w) ≡ edges w
+  committed-long = bits-long _ _ committed-by
+
+  pub committed-bits : areBits (committedEdges T w) ≡ true
+  committed-bits = bits-fine _ _ committed-by
+
+module _ (w : Window) where
+  escaped-by : Bits (detectors w) (escapedDefects w)
+  unfolding escapedDefects
+  escaped-by =
+      let h = w .shape .height in
+      let d = w .shape .distance in
+      record { rule = λ i. at w (indexOf h d (detectorAt d (sheetsOf d - 1) i)) .defect; bytes = refl }
+
+  pub escaped-long : length (escapedDefects w) ≡ detectors w
+  escaped-long = bits-long _ _ escaped-by
+
+  pub escaped-bits : areBits (escapedDefects w) ≡ true
+  escaped-bits = bits-fine _ _ escaped-by
+
+-- THE ROUND
+
+module _ (T : Table) (w : Window) where
+  abbrev left : List ℕ → Round
+  left bytes = record { window = rounded T w bytes; edges = committedEdges T w; escapes = escapedDefects w }
+
+  -- what is done with the round that was received, and with the bytes that were read
+  abbrev pub onRan : Round → ℕ → Ran → ℕ → Answer Turn
+  onRan r next v z = done (record { window = v .window; result = record { edges = r .edges; escapes = r .escapes; steps = v .count }; rest = v .rest }) next
+
+  abbrev pub onRound : ℕ → Round → ℕ → Answer Turn
+  onRound next r z = andThen (runCall T (r .window) budget) (onRan r next)
+
+  abbrev pub onBytes : List ℕ → ℕ → Answer Turn
+  onBytes bytes next = andThen (roundCall T w bytes (replicate {A = ℕ} (edges w) 0) (replicate {A = ℕ} (detectors w) 0)) (onRound next)
+
+  pub turn-steps : (s : List ℕ) (at : ℕ) → turnAt T s w at ≡ andThen (roundAt s (detectors w) at) onBytes
+  unfolding turnAt
+  turn-steps s at = refl
+
+  module _ (S : Suited T) (formed : wellFormed T w ≡ true) (rest : isRest (w .stage) ≡ true) (next : w .next < 4294967295) (bytes : List ℕ)
+      (long : length bytes ≡ detectors w) (bits : areBits bytes ≡ true) where
+    -- no call refuses it
+    round-received : roundCall T w bytes (replicate {A = ℕ} (edges w) 0) (replicate {A = ℕ} (detectors w) 0) ≡ done (left bytes) 0
+    unfolding roundCall
+    round-received =
+        hold-pass (roundTests T w bytes (length (replicate {A = ℕ} (edges w) 0)) (length (replicate {A = ℕ} (detectors w) 0)))
+        (formed, (rest, (lt-ltb _ _ next, (eq-eqb _ _ long, (eq-eqb _ _ (length-replicate {A = ℕ} (edges w) 0), (eq-eqb _ _ (length-replicate {A = ℕ} (detectors w) 0), (bits, tt)))))))
+        Round (done (left bytes) 0)
+
+    to-grow : not (isRest (rounded T w bytes .stage)) ≡ true
+    unfolding rounded
+    to-grow = refl
+
+    round-run : runCall T (rounded T w bytes) budget ≡ done (ran T budget (rounded T w bytes)) 0
+    unfolding runCall
+    round-run =
+        hold-pass (stateTests T (rounded T w bytes) (not (isRest (rounded T w bytes .stage)))) (round T w bytes S formed rest, (to-grow, tt)) Ran
+        (done (ran T budget (rounded T w bytes)) 0)
+
+    pub turn-done : (s : List ℕ) (at behind : ℕ) → roundAt s (detectors w) at ≡ done bytes behind → turnAt T s w at ≡ done (turnOf T w bytes) behind
+    turn-done s at behind e =
+        turn-steps s at ∙ goes-on onBytes e ∙ goes-on (onRound behind) round-received ∙ goes-on (onRan (left bytes) behind) round-run
+
+  module _ (S : Suited T) (formed : wellFormed T w ≡ true) (rest : isRest (w .stage) ≡ true) (bytes : List ℕ) where
+    pub turn-formed : wellFormed T (turnOf T w bytes .window) ≡ true
+    unfolding rounded
+    turn-formed = run T S budget (rounded T w bytes) (round T w bytes S formed rest) refl

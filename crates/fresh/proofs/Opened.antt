@@ -1,0 +1,66 @@
+-- What opening a window leaves. Assumes nothing.
+use Prim.Native.Nat.{ℕ}
+use mathlib.Core.Path.{_≡_, refl, sym, _∙_, ap}
+use mathlib.Core.Bool.{true, false}
+use mathlib.Core.List.{List}
+use lib.ListN.{replicate}
+use Rattle.refusal.specs.Answer.{Answer, done, refused, turned, andThen, itself}
+use Rattle.refusal.specs.Laws.{turned-not, turned-passed, value-not, turned-as}
+use Rattle.refusal.specs.Done.{took}
+use Rattle.refusal.specs.declared.Refusal.{Refusal}
+use Rattle.shape.specs.Ranges.{both}
+use Rattle.shape.specs.Sizes.{shapeAnswer, heightOk, distanceOk, shapeOf, inRange, sheetsOf, nodesOf}
+use Rattle.window.specs.Window.{alone, unused}
+use Rattle.window.specs.Fresh.{freshWindow, noWindow}
+use Rattle.window.specs.Calls.{Answered, given, leaves, freshCall}
+use Rattle.shape.specs.Nodes.{numberOf, placeAt}
+use Rattle.shape.specs.declared.Place.{Place}
+use Rattle.shape.specs.declared.Shape.{Shape}
+use Rattle.shape.specs.declared.Shaped.{Shaped}
+use Rattle.shape.specs.declared.Shaped.the-variants as shaped
+use Rattle.window.specs.Lists.{over}
+use Rattle.window.specs.declared.Node.{Node}
+use Rattle.window.specs.declared.Stage.the-variants.{Rest}
+use Rattle.window.specs.declared.Window.{Window}
+
+-- A FRESH WINDOW
+
+same-shape : (a b : Shape) → _≡_ {A = Answer Shape} (done a 0) (done b 0) → a ≡ b
+same-shape a b e = cc
+
+freshAs : Answer Shape → Answered (Unit {0})
+freshAs a = leaves (andThen a (λ sh n. done (freshWindow sh) n)) itself noWindow
+
+module _ (h d : ℕ) (r : Shaped) (made : shapeAnswer r ≡ shapeOf h d) where
+  pub fresh-refused : (f : Refusal) → r ≡ shaped.Refused f → given (turned f) noWindow ≡ leaves (freshCall h d) itself noWindow
+  unfolding freshCall freshAs
+  fresh-refused f z =
+      let e = ap shapeAnswer (sym z) ∙ made in
+      sym (ap freshAs (sym e) ∙ ap (λ (a : Answer Window). leaves a itself noWindow) (turned-as {B = Window} f (λ sh n. done (freshWindow sh) n)) ∙ rw (
+        turned-passed Window f,
+        value-not (turned {A = Window} f) itself noWindow (turned-not Window f),
+      ))
+
+  pub fresh-done : (sh : Shape) (v : Window) → r ≡ shaped.Shape sh → v ≡ freshWindow sh → given (done tt 0) v ≡ leaves (freshCall h d) itself noWindow
+  unfolding freshCall freshAs
+  fresh-done sh v z y = ap (λ (x : Window). given (done tt 0) x) y ∙ sym (ap freshAs (sym made ∙ ap shapeAnswer z))
+
+  -- a shape that was made is in range
+  pub shape-ranged : (sh : Shape) → r ≡ shaped.Shape sh → inRange (sh .height) (sh .distance) ≡ true
+  shape-ranged sh z =
+      let a = took (heightOk h) _ (refused 1) sh 0 refl (sym made ∙ ap shapeAnswer z) in
+      let b = took (distanceOk d) _ (refused 2) sh 0 refl (a .1) in
+      let y : _≡_ {A = Shape} (record { height = h; distance = d }) sh = same-shape _ _ (b .1) in
+      rw (← y) (both (heightOk h) (distanceOk d) (a .0) (b .0))
+
+-- the loop that numbers its nodes
+abbrev pub numbering : Shape → ℕ → Node
+numbering sh g = alone (numberOf (sh .height) (sh .distance) (placeAt (sh .height) (sh .distance) g)) false
+
+pub numbered-by : (sh : Shape) (g m : ℕ) (q : Place) (x : Node) → q ≡ placeAt (sh .height) (sh .distance) g → m ≡ numberOf (sh .height) (sh .distance) q → x ≡ alone m false → x ≡ numbering sh g
+numbered-by sh g m q x e f z = rw (z, f, e)
+
+pub fresh-by : (sh : Shape) (g s : ℕ) (nodes : List Node) → g ≡ nodesOf (sh .height) (sh .distance) → s ≡ sheetsOf (sh .distance) → nodes ≡ over g (numbering sh) (replicate 3600 unused)
+    → _≡_ {A = Window} (record { shape = sh; stage = Rest; next = s; nodes = nodes; growth = replicate {A = ℕ} 10800 0; correction = replicate 10800 false }) (freshWindow sh)
+unfolding freshWindow
+fresh-by sh g s nodes e f z = rw (z, e, f)

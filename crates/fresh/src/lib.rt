@@ -1,0 +1,75 @@
+// The fresh window of a shape.
+use shape::Place;
+use shape::Shape;
+use shape::Shaped;
+use window::Called;
+use window::Given;
+use window::Stage;
+use window::Window;
+ghost use mathlib.Core.Path.{_≡_};
+ghost use mathlib.Core.Bool.{true};
+ghost use Rattle.refusal.specs.Answer.{itself};
+ghost use Rattle.shape.specs.Sizes.{inRange};
+ghost use Rattle.window.specs.Fresh.{freshWindow, noWindow};
+ghost use Rattle.window.specs.Calls.{callAnswer, given, leaves, freshCall};
+
+// What stands where a shape is refused.
+fn no_window() -> Window
+    ensures { λ r. ⌜ r ≡ noWindow ⌝ }
+{
+    Window {
+        shape: Shape {
+            height: 0,
+            distance: 0,
+        },
+        stage: Stage::Rest,
+        next: 0,
+        nodes: [window::alone(0, false); 3600],
+        growth: [0; 10800],
+        correction: [false; 10800],
+    }
+}
+
+fn fresh_window(shape: Shape) -> Window
+    requires { ⌜ inRange (shape .height) (shape .distance) ≡ true ⌝ }
+    ensures { λ r. ⌜ r ≡ freshWindow shape ⌝ }
+{
+    let n = shape::nodes(shape);
+    let mut nodes = [window::alone(0, false); 3600];
+    let mut place = Place {
+        depth: 0,
+        row: 0,
+        column: 0,
+    };
+    let mut g: usize = 0;
+    while g < n {
+        nodes[g] = window::alone(walk::number(shape, place, g), false);
+        place = walk::next_place(shape, place);
+        g += 1;
+    }
+    Window {
+        shape,
+        stage: Stage::Rest,
+        next: shape::sheets(shape) as u32,
+        nodes,
+        growth: [0; 10800],
+        correction: [false; 10800],
+    }
+}
+
+// The fresh window of a height and a distance.
+pub fn fresh(height: u32, distance: u32) -> Given
+    ensures { λ r. ⌜ given (callAnswer (r .answer)) (r .window) ≡ leaves (freshCall height distance) itself noWindow ⌝ }
+{
+    let shaped = shape::shape_of(height, distance);
+    match shaped {
+        Shaped::Refused(f) => Given {
+            answer: Called::Refused(f),
+            window: no_window(),
+        },
+        Shaped::Shape(shape) => Given {
+            answer: Called::Done,
+            window: fresh_window(shape),
+        },
+    }
+}

@@ -1,0 +1,20 @@
+-- The edge of a number, at each outcome of the tests. Assumes nothing.
+use Prim.Native.Nat.{ℕ, _-_, _≤_, _<_}
+use mathlib.Core.Path.{_≡_, _∙_}
+use native.Mathlib.Omega.{arith}
+use borrow.Author.Tests.{lt-ltb, le-ltb}
+use Rattle.shape.specs.Choice.{if-true, if-false}
+use Rattle.layers.specs.Layer.{edgeIn, edgeOf, rowEdges, sheetEdges}
+
+module _ (h d n : ℕ) where
+  pub edge-row : n < rowEdges h d → edgeOf h d n ≡ edgeIn 0 d 0 n
+  unfolding edgeOf
+  edge-row l = if-true _ _ _ (lt-ltb n (rowEdges h d) l)
+
+  pub edge-column : rowEdges h d ≤ n → n < sheetEdges h d → edgeOf h d n ≡ edgeIn 1 (d - 1) 1 (n - rowEdges h d)
+  unfolding edgeOf
+  edge-column a l = if-false _ _ _ (le-ltb n (rowEdges h d) a) ∙ if-true _ _ _ (lt-ltb n (sheetEdges h d) l)
+
+  pub edge-time : sheetEdges h d ≤ n → edgeOf h d n ≡ edgeIn 2 (d - 1) 1 (n - sheetEdges h d)
+  unfolding edgeOf
+  edge-time a = if-false _ _ _ (le-ltb n (rowEdges h d) (omega arith)) ∙ if-false _ _ _ (le-ltb n (sheetEdges h d) a)

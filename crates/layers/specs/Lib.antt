@@ -1,0 +1,5 @@
+pub mod Layer
+pub mod Limits
+pub mod Cases
+pub mod LawsLayer
+pub mod LawsEdge

@@ -1,0 +1,63 @@
+// The shape that a height and a distance from C name, and its sizes.
+ghost use mathlib.Core.Path.{_≡_};
+ghost use Rattle.refusal.specs.Answer.{valueOr, itself};
+ghost use Rattle.shape.specs.Sizes.{shapeOf, nodesOf, detectorsOf, layerEdgesOf};
+ghost use Rattle.named.specs.Named.{shapeBy, clip, none, sizeBy};
+use shape::Shape;
+use shape::Shaped;
+
+// A height or a distance as a byte: 255 for what no byte holds, which is out of range as well.
+fn byte(n: u32) -> u8
+    ensures { λ r. ⌜ r ≡ clip n ⌝ }
+{
+    if n < 256 { n as u8 } else { 255 }
+}
+
+// The shape that they name. The calls on records test it, and refuse it by the same number.
+pub fn shape_by(height: u32, distance: u32) -> Shape
+    ensures { λ r. ⌜ r ≡ shapeBy (clip height) (clip distance) ⌝ }
+{
+    let h = byte(height);
+    let d = byte(distance);
+    Shape {
+        height: h,
+        distance: d,
+    }
+}
+
+// The shape, or 0 by 0 where it is refused.
+fn shape_or_none(height: u32, distance: u32) -> Shape
+    ensures { λ r. ⌜ r ≡ valueOr (shapeOf height distance) itself none ⌝ }
+{
+    match shape::shape_of(height, distance) {
+        Shaped::Shape(shape) => shape,
+        Shaped::Refused(_) => Shape {
+            height: 0,
+            distance: 0,
+        },
+    }
+}
+
+// The sizes of a shape, 0 where it is refused: the nodes of its window,
+pub fn nodes(height: u32, distance: u32) -> usize
+    ensures { λ r. ⌜ r ≡ sizeBy nodesOf height distance ⌝ }
+{
+    let shape = shape_or_none(height, distance);
+    shape::nodes(shape)
+}
+
+// the detectors of a sheet,
+pub fn detectors(height: u32, distance: u32) -> usize
+    ensures { λ r. ⌜ r ≡ sizeBy detectorsOf height distance ⌝ }
+{
+    let shape = shape_or_none(height, distance);
+    shape::detectors(shape)
+}
+
+// and the edges of a layer.
+pub fn layer_edges(height: u32, distance: u32) -> usize
+    ensures { λ r. ⌜ r ≡ sizeBy layerEdgesOf height distance ⌝ }
+{
+    let shape = shape_or_none(height, distance);
+    shape::layer_edges(shape)
+}

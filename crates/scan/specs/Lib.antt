@@ -1,0 +1,4 @@
+pub mod Scanned
+pub mod Passed
+pub mod LawsScanned
+pub mod Reached
