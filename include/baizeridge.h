@@ -9,7 +9,8 @@
  * changed. A writer stores the record's own bytes and no others.
  *
  * What the caller sees to. The proofs hold where
- *   - a slice, a pointer and a length, has that many bytes; NULL will do with length 0, and only there;
+ *   - a slice, a pointer and a length, has that many bytes, at most PTRDIFF_MAX; NULL will do with length 0, and only
+ *     there;
  *   - every other pointer points to one value of its type, aligned as C aligns it;
  *   - all of these are initialised, those too that the call is to store to;
  *   - what a call may store to, all that is not const, overlaps nothing else that it is handed, while const slices may

@@ -12,8 +12,6 @@ pub const ROUNDS: usize = 42_000;
 pub const RESULTS: usize = 21_000;
 pub const STREAMS: usize = 21_000;
 
-const _: () = assert!(NUMBERS + LISTS + HEADERS + ROUNDS + RESULTS + STREAMS >= 100_000);
-
 /// Noise levels: chances in millionths, from 0.1 % to 90 %.
 pub const CHANCES: [usize; 10] = [1_000, 3_000, 10_000, 30_000, 60_000, 100_000, 200_000, 400_000, 700_000, 900_000];
 

@@ -1,7 +1,8 @@
 //! A second opinion on the proved code. `streams` says what document 01 asks for, `proved` calls the archive, and
 //! `compare` holds every answer and every byte of the one against the other. `decoder` is a second decoder, which
-//! `decoding` takes through a whole stream, and `account` holds it to the law; `replay` plays the stored script of `crates/replay` on it, which `script`
-//! writes. `dense` is a plain decoder for the benchmark.
+//! `decoding` takes through a whole stream, and `account` holds it to the law; `replay` plays the stored script of
+//! `crates/replay` on it, which `script` writes, by the windows that `image` edits. `dense` is a plain decoder for the
+//! benchmark. `cases`, `random`, `noise` and `tally` make inputs and count them; `repository` finds files.
 
 pub mod account;
 pub mod cases;
@@ -14,6 +15,7 @@ pub mod noise;
 pub mod proved;
 pub mod random;
 pub mod replay;
+pub mod repository;
 pub mod script;
 pub mod streams;
 pub mod tally;

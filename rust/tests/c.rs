@@ -1,20 +1,13 @@
-//! The header for C: what it declares, the programs that include it, and the stack that it promises to suffice.
+//! The header for C: what it declares, the programs that include it, and the stack that it says suffices.
 
 use baizeridge_tests::noise::{stream, Noise};
 use baizeridge_tests::random::Random;
+use baizeridge_tests::repository::{root, text};
 use baizeridge_tests::streams::{Done, Shape, Stop};
 use baizeridge_tests::{decoder, proved};
 use std::collections::BTreeSet;
-use std::path::{Path, PathBuf};
+use std::path::Path;
 use std::process::{Command, Output};
-
-fn root() -> PathBuf {
-    Path::new(env!("CARGO_MANIFEST_DIR")).parent().expect("rust/ stands in the repository").to_path_buf()
-}
-
-fn text(file: &str) -> String {
-    std::fs::read_to_string(root().join(file)).expect("the file can be read")
-}
 
 /// The exported names that a file has before an opening parenthesis.
 fn names(file: &str) -> BTreeSet<String> {
@@ -92,8 +85,8 @@ fn the_stack_suffices_to_decode() {
         let input = stream(shape, 40, Noise::Defects(chance), &mut Random::new(0x7374_6163, 0));
         let decoded = decoder::decode(&input);
         let mut out = vec![0; decoded.result.len()];
-        let (told, out) = with_stack("BAIZERIDGE_DECODE_STACK", move || (proved::decode(&input, &mut out), out));
-        assert_eq!((told, &out), ((0, None, out.len()), &decoded.result));
+        let (answer, out) = with_stack("BAIZERIDGE_DECODE_STACK", move || (proved::decode(&input, &mut out), out));
+        assert_eq!((answer, &out), ((0, None, out.len()), &decoded.result));
     }
 }
 

@@ -1,23 +1,23 @@
 //! What docs/DECISIONS.md says of the source: the functions between crates that ask something of their caller.
 
+use baizeridge_tests::repository::{root, text};
 use std::collections::BTreeSet;
-use std::path::{Path, PathBuf};
 
-fn root() -> PathBuf {
-    Path::new(env!("CARGO_MANIFEST_DIR")).parent().expect("rust/ stands in the repository").to_path_buf()
-}
-
-fn text(path: &Path) -> String {
-    std::fs::read_to_string(path).unwrap_or_else(|error| panic!("{}: {error}", path.display()))
-}
-
-/// The public functions of a source whose contract has a `requires`.
-fn asking(source: &str) -> impl Iterator<Item = &str> {
-    let public = source.split("\npub fn ").skip(1).chain(source.split("\npub extern \"C\" fn ").skip(1));
-    public.filter_map(|function| {
-        let contract = function.split("\n{").next()?;
-        contract.contains("\n    requires ").then(|| function.split('(').next())?
-    })
+/// The public functions of a source, methods too, whose contract has a `requires`.
+fn asking(source: &str) -> BTreeSet<&str> {
+    let mut public = None;
+    let mut found = BTreeSet::new();
+    for line in source.lines().map(str::trim_start) {
+        let function = line.strip_prefix("pub ").map(|rest| rest.trim_start_matches("extern \"C\" "));
+        if let Some(function) = function.and_then(|rest| rest.strip_prefix("fn ")) {
+            public = function.split(['(', '<']).next();
+        } else if line.starts_with("fn ") {
+            public = None;
+        } else if line.starts_with("requires ") {
+            found.extend(public);
+        }
+    }
+    found
 }
 
 #[test]
@@ -26,11 +26,12 @@ fn every_requires_between_crates_is_listed() {
     for entry in std::fs::read_dir(root().join("crates")).expect("crates/ can be read") {
         let folder = entry.expect("crates/ can be read").path();
         let name = folder.file_name().expect("a crate has a name").to_string_lossy().into_owned();
-        if let Ok(source) = std::fs::read_to_string(folder.join("src/lib.rt")) {
-            found.extend(asking(&source).map(|function| format!("{name}::{function}")));
+        if folder.join("src/lib.rt").exists() {
+            let source = text(folder.join("src/lib.rt"));
+            found.extend(asking(&source).into_iter().map(|function| format!("{name}::{function}")));
         }
     }
-    let decisions = text(&root().join("docs/DECISIONS.md"));
+    let decisions = text("docs/DECISIONS.md");
     let table = decisions.split("**No public call has a `requires`.**").nth(1).expect("the list is there");
     let table = table.split("\n**").next().expect("the list ends");
     let listed = table.lines().filter(|line| line.starts_with("| `")).flat_map(|line| {

@@ -108,13 +108,13 @@ fn dense_noise() {
 
 #[test]
 fn long_runs() {
-    const CHANCES: [usize; 5] = [1_000, 10_000, 50_000, 200_000, 900_000];
+    const LEVELS: [usize; 5] = [1_000, 10_000, 50_000, 200_000, 900_000];
     let runs = [(1, 2, 6_000), (1, 3, 4_000), (2, 2, 4_000), (3, 3, 3_000), (5, 5, 300), (15, 2, 300), (1, 15, 300)];
     let mut covered = Covered::default();
-    each_case(0x6c6f_6e67, runs.len() * CHANCES.len(), |case, random| {
-        let (height, distance, rounds) = runs[case / CHANCES.len()];
+    each_case(0x6c6f_6e67, runs.len() * LEVELS.len(), |case, random| {
+        let (height, distance, rounds) = runs[case / LEVELS.len()];
         let shape = Shape::new(height, distance).expect("a shape in range");
-        decode_random(shape, rounds, CHANCES[case % CHANCES.len()], random, &mut covered);
+        decode_random(shape, rounds, LEVELS[case % LEVELS.len()], random, &mut covered);
     });
     let ([rounds, edges], shapes) = (covered.sums(), covered.shapes());
     assert_eq!(shapes, [runs.len(); 2]);

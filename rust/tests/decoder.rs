@@ -1,4 +1,4 @@
-//! The second decoder on what document 01 prints.
+//! The second decoder on what document 01 prints, and the law after every call.
 
 use baizeridge_tests::account::Accounted;
 use baizeridge_tests::cases::CHANCES;

@@ -1,10 +1,14 @@
 //! docs/FORMATS.md: its fenced blocks have bytes on the left and what they say on the right. Each line is what the proved
 //! readers make of the bytes, and each input is decoded to the result behind it.
 
-use baizeridge_tests::compare::{self, read_header, read_list, read_number, read_result, read_round, scan_input};
+use baizeridge_tests::compare::{self, read_header, read_list, read_number, read_result, read_round};
+use baizeridge_tests::compare::{scan_input, scan_results};
 use baizeridge_tests::decoder;
 use baizeridge_tests::decoding::DECODED;
+use baizeridge_tests::repository;
 use baizeridge_tests::streams::{Done, Shape, Stop};
+use std::io::Write;
+use std::process::{Command, Stdio};
 
 const DOCUMENT: &str = include_str!("../../docs/FORMATS.md");
 
@@ -116,13 +120,29 @@ fn number(src: &[u8]) -> Result<String, Stop> {
 }
 
 fn whole_input(src: &[u8]) -> Result<String, Stop> {
-    let Done((h, d, rounds), _) = scan_input(src)?;
-    Ok(format!("{h} by {d}, records {rounds}"))
+    Ok(whole(scan_input(src)?))
 }
 
 fn whole_result(src: &[u8]) -> Result<String, Stop> {
-    let lines = result_lines(src)?;
-    Ok(format!("{}, records {}", lines[0].1, lines.len() - 1))
+    Ok(whole(scan_results(src)?))
+}
+
+fn whole(Done((h, d, rounds), _): Done<(u32, u32, usize)>) -> String {
+    format!("{h} by {d}, records {rounds}")
+}
+
+/// What the program writes to standard output, with nothing on standard error.
+fn program(input: &[u8]) -> Vec<u8> {
+    let mut child = Command::new(repository::program())
+        .stdin(Stdio::piped())
+        .stdout(Stdio::piped())
+        .stderr(Stdio::piped())
+        .spawn()
+        .expect("the program starts");
+    child.stdin.take().expect("standard input is piped").write_all(input).expect("the input can be written");
+    let output = child.wait_with_output().expect("the program ends");
+    assert!(output.status.success() && output.stderr.is_empty());
+    output.stdout
 }
 
 /// What the readers make of a block's bytes.
@@ -155,6 +175,7 @@ fn every_input_is_decoded_to_the_result_behind_it() {
         let decoded = decoder::decode(&input);
         assert_eq!((decoded.status, &decoded.result), (DECODED, &result));
         assert_eq!(compare::decode(&input, &decoded, result.len()), DECODED);
+        assert_eq!(program(&input), result);
     }
     let (list, result) = (bytes("list 411").next().expect("a list"), bytes("result").last().expect("a result"));
     assert!(result.windows(list.len()).any(|part| part == list), "the list is one of the last result");

@@ -7,6 +7,7 @@ use baizeridge_tests::decoder::Window;
 use baizeridge_tests::decoding::{self, Output, LONGEST};
 use baizeridge_tests::noise::{stream, Noise};
 use baizeridge_tests::random::Random;
+use baizeridge_tests::repository;
 use baizeridge_tests::streams::Shape;
 use std::fs::{read, write, File, OpenOptions};
 use std::io::{ErrorKind, Write};
@@ -27,9 +28,7 @@ const SIGPIPE: i32 = 13;
 const SIGXFSZ: i32 = 25;
 
 fn program() -> Command {
-    let program = Path::new(env!("CARGO_MANIFEST_DIR")).join("../target/bin/decode");
-    assert!(program.exists(), "no program to test: run `rt check decode` at the repository's root first");
-    Command::new(program)
+    Command::new(repository::program())
 }
 
 /// What the program wrote; it ended with status 0.
@@ -158,7 +157,7 @@ fn random_streams() {
 /// The example beside the program, which `rt check decode` runs it on.
 #[test]
 fn stored_example() {
-    let file = |name| read(concat!(env!("CARGO_MANIFEST_DIR"), "/../crates/decode/").to_owned() + name);
+    let file = |name| read(repository::root().join("crates/decode").join(name));
     let [input, result] = ["stdin", "stdout"].map(|name| file(name).expect("the example can be read"));
     assert_eq!(compared(&input), decoded(&result));
 }

@@ -128,8 +128,8 @@ pub record Account (T : Table) (s : List ℕ) (d : Decoded) : Type 0 where
   pub output-fits : ResultFits output
   pub back : resultsOf (d .output) ≡ done output (length (d .output))
   -- What was read is the input's bytes, at the front of s.
-  pub rest : List ℕ
-  pub reads : s ≡ inputBytes input ++ rest
+  pub remaining : List ℕ
+  pub reads : s ≡ inputBytes input ++ remaining
   pub input-fits : InputFits input
   -- Both are of one shape, and there is a result for each round.
   pub shape : output .shape ≡ input .shape

@@ -56,12 +56,12 @@ module _ (T : Table) (s : List ℕ) (w : Window) (at : ℕ) (bytes : List ℕ) (
   abbrev receipt : Receipt
   receipt = receiptOf (p .sheet) (p .round)
 
-  received : roundCall T w (p .sheet) (replicate {A = ℕ} (edgesIn sh) 0) (replicate {A = ℕ} (detectorsIn sh) 0) ≡ done (p .round) (p .receives .0)
-  received =
+  round-done : roundCall T w (p .sheet) (replicate {A = ℕ} (edgesIn sh) 0) (replicate {A = ℕ} (detectorsIn sh) 0) ≡ done (p .round) (p .receives .0)
+  round-done =
       ap (λ (x : Shape). roundCall T w (p .sheet) (replicate {A = ℕ} (edgesIn x) 0) (replicate {A = ℕ} (detectorsIn x) 0)) (sym same) ∙ p .receives .1
 
   window-round : returned T w receives ≡ p .round .window
-  window-round = ap (λ (a : Answer Round). valueOr a windowOf w) received
+  window-round = ap (λ (a : Answer Round). valueOr a windowOf w) round-done
 
   window-run : returned T (p .round .window) runs ≡ v
   window-run = ap (λ (a : Answer Ran). valueOr a (λ r. r .window) (p .round .window)) (p .runs .1) ∙ p .window
@@ -70,7 +70,7 @@ module _ (T : Table) (s : List ℕ) (w : Window) (at : ℕ) (bytes : List ℕ) (
   window-both = ap (λ (u : Window). returned T u runs) window-round ∙ window-run
 
   one-receipt : receipted T w receives ≡ receipt ∷ []
-  one-receipt = ap (λ (a : Answer Round). valueOr a (λ r. receiptOf (p .sheet) r ∷ []) []) received
+  one-receipt = ap (λ (a : Answer Round). valueOr a (λ r. receiptOf (p .sheet) r ∷ []) []) round-done
 
   one-count : countOf T (p .round .window) runs ≡ p .run .count ∷ []
   one-count = ap (λ (a : Answer Ran). valueOr a (λ r. r .count ∷ []) []) (p .runs .1)

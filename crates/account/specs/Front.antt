@@ -3,7 +3,7 @@ use Prim.Native.Nat.{ℕ, zero, suc, _+_}
 use mathlib.Core.Path.{_≡_, refl, sym, _∙_, ap}
 use mathlib.Core.List.{List, [], _∷_, _++_, append-assoc}
 use lib.ListN.{length, take, drop}
-use Rattle.refusal.specs.Answer.{Answer, done, ended, refused, refusedAt, andThen}
+use Rattle.refusal.specs.Answer.{done}
 use Rattle.refusal.specs.Done.{goes-on, went, never}
 use Rattle.refusal.specs.Filling.{drop-part}
 use Rattle.list.specs.Sheet.{listed}
@@ -12,25 +12,8 @@ use Rattle.record.specs.Records.{headerAt}
 use Rattle.trip.specs.Streams.{Stream, allBytes, recordsAt, streamOf, roundOf, inputOf}
 use Rattle.trip.specs.Fits.{Each, InRange, RoundFits}
 use Rattle.trip.specs.Kinds.{round-kind}
+use Rattle.trip.specs.Trip.{onMore, onRecord, onRecords, onHeader}
 use Rattle.account.specs.Account.{firstOf}
-
-abbrev onMore : List ℕ → List (List ℕ) → ℕ → Answer (List (List ℕ))
-onMore r rs end = done (r ∷ rs) end
-
-abbrev onRecord : (ℕ → Answer (List ℕ)) → ℕ → ℕ → Answer (List ℕ) → Answer (List (List ℕ))
-onRecord read n at a =
-    elim a [
-      | done r next ↦ andThen (recordsAt read n next) (onMore r)
-      | ended ↦ done [] at
-      | refused e ↦ refused e
-      | refusedAt e o ↦ refusedAt e o
-    ]
-
-abbrev onRecords : Shape → List (List ℕ) → ℕ → Answer (Stream (List ℕ))
-onRecords sh rs end = done (record { shape = sh; records = rs }) end
-
-abbrev onHeader : List ℕ → Shape → ℕ → Answer (Stream (List ℕ))
-onHeader s sh next = andThen (recordsAt (roundOf s sh) (length s) next) (onRecords sh)
 
 module _ (s : List ℕ) (sh : Shape) (range : InRange sh) where
   abbrev of : List (List ℕ) → Stream (List ℕ)
@@ -54,7 +37,7 @@ module _ (s : List ℕ) (sh : Shape) (range : InRange sh) where
       → k ≡ length qs → (t : Stream (List ℕ)) (end : ℕ) → inputOf s ≡ done t end → of qs ≡ firstOf k t
   unfolding streamOf
   front-of next qs rest k h f d long t end e =
-      let g = went (recordsAt (roundOf s sh) (length s) next) (onRecords sh) t end (sym (goes-on (onHeader s) h) ∙ e) in
+      let g = went (recordsAt (roundOf s sh) (length s) next) (onRecords sh) t end (sym (goes-on (onHeader roundOf s) h) ∙ e) in
       let same : of (g .value) ≡ t = cc (g .after) in
       let cut : take k (g .value) ≡ qs = ap (λ (i : ℕ). take i (g .value)) long ∙ first-rounds (length s) next (g .value) qs (g .next) rest (g .before) f d in
       ap of (sym cut) ∙ ap (firstOf k) same

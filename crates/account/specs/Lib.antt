@@ -13,6 +13,8 @@ pub mod Sums
 pub mod Balance
 -- the proof
 pub mod Theorem
+-- status 0 of a decoding
+pub mod Codes
 -- what a caller is left with, and document 01's first session
 pub mod Handed
 pub mod Witness

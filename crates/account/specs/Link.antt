@@ -1,5 +1,5 @@
 -- THE LAW REACHES THE CODE: what a call's promise says is left is what the law's list of calls goes on with. Each hypothesis below is a promise
--- of crate `calls`, word for word, with its left side named; done and refused calls alike. Assumes nothing.
+-- of crates `calls` and `fresh`, word for word, with its left side named; done and refused calls alike. Assumes nothing.
 use Prim.Native.Nat.{ℕ}
 use mathlib.Core.Path.{_≡_, refl, sym, _∙_, ap, ap₂, subst}
 use mathlib.Core.Bool.{Bool}

@@ -123,7 +123,7 @@ module _ (T : Table) (S : Suited T) (L : Layered T) (s : List ℕ) (size : ℕ) 
     on =
         record {
           input = input;
-          rest = drop (r .next) s;
+          remaining = drop (r .next) s;
           reads = reads;
           input-fits = input-fits;
           output = output;

@@ -13,7 +13,7 @@ use Rattle.shape.specs.Sizes.{inRange}
 use Rattle.steps.specs.Steps.{base}
 use Rattle.window.specs.Formed.{wellFormed}
 use Rattle.window.specs.Round.{rounded, committedEdges, escapedDefects}
-use Rattle.window.specs.Calls.{callAnswer, leaves, Round, windowOf, edgesOf, escapesOf, roundTests, roundCall}
+use Rattle.window.specs.Calls.{callAnswer, Round, windowOf, edgesOf, escapesOf, roundTests, roundCall}
 use Rattle.window.specs.declared.Called.{Called}
 use Rattle.window.specs.declared.Called.the-variants as called
 use Rattle.window.specs.declared.Window.{Window}

@@ -76,9 +76,9 @@ module _ (h d s : ℕ) (q : Place) (l : q .depth + 1 < s) where
 
 -- a pointer along an edge: it goes on along one, or down out of the window from a detector at the bottom
 module _ (T : Table) (P : Proper T) (h d : ℕ) (q : Place) (l : q .depth + 1 < sheetsOf d) (p : ℕ) (j : Joins h d (sheetsOf d) (step T p) q) where
-  leaves : sheetsOf d ≤ goes (step T p .sheet) (q .depth + 1) → Pointing T ToGrow h d (lower q) p
+  off-bottom : sheetsOf d ≤ goes (step T p .sheet) (q .depth + 1) → Pointing T ToGrow h d (lower q) p
   unfolding across
-  leaves m =
+  off-bottom m =
       let a = P .opposed p (points T p (j .moves)) .fall in
       let b = j .to .depth in
       let c = j .sheet in
@@ -90,7 +90,7 @@ module _ (T : Table) (P : Proper T) (h d : ℕ) (q : Place) (l : q .depth + 1 < 
       (lt-ltb _ _ e)
 
   pub pointing-lower : Pointing T ToGrow h d (lower q) p
-  pointing-lower = ⊎-elim (λ m. along (joins-lower h d (sheetsOf d) q l (step T p) j m)) leaves (order (goes (step T p .sheet) (q .depth + 1)) (sheetsOf d))
+  pointing-lower = ⊎-elim (λ m. along (joins-lower h d (sheetsOf d) q l (step T p) j m)) off-bottom (order (goes (step T p .sheet) (q .depth + 1)) (sheetsOf d))
 
 -- NUMBERS
 

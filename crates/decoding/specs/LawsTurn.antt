@@ -94,8 +94,8 @@ module _ (w : Window) where
 -- THE ROUND
 
 module _ (T : Table) (w : Window) where
-  abbrev left : List ℕ → Round
-  left bytes = record { window = rounded T w bytes; edges = committedEdges T w; escapes = escapedDefects w }
+  abbrev roundDone : List ℕ → Round
+  roundDone bytes = record { window = rounded T w bytes; edges = committedEdges T w; escapes = escapedDefects w }
 
   -- what is done with the round that was received, and with the bytes that were read
   abbrev pub onRan : Round → ℕ → Ran → ℕ → Answer Turn
@@ -114,12 +114,12 @@ module _ (T : Table) (w : Window) where
   module _ (S : Suited T) (formed : wellFormed T w ≡ true) (rest : isRest (w .stage) ≡ true) (next : w .next < 4294967295) (bytes : List ℕ)
       (long : length bytes ≡ detectors w) (bits : areBits bytes ≡ true) where
     -- no call refuses it
-    round-received : roundCall T w bytes (replicate {A = ℕ} (edges w) 0) (replicate {A = ℕ} (detectors w) 0) ≡ done (left bytes) 0
+    round-accepted : roundCall T w bytes (replicate {A = ℕ} (edges w) 0) (replicate {A = ℕ} (detectors w) 0) ≡ done (roundDone bytes) 0
     unfolding roundCall
-    round-received =
+    round-accepted =
         hold-pass (roundTests T w bytes (length (replicate {A = ℕ} (edges w) 0)) (length (replicate {A = ℕ} (detectors w) 0)))
         (formed, (rest, (lt-ltb _ _ next, (eq-eqb _ _ long, (eq-eqb _ _ (length-replicate {A = ℕ} (edges w) 0), (eq-eqb _ _ (length-replicate {A = ℕ} (detectors w) 0), (bits, tt)))))))
-        Round (done (left bytes) 0)
+        Round (done (roundDone bytes) 0)
 
     to-grow : not (isRest (rounded T w bytes .stage)) ≡ true
     unfolding rounded
@@ -133,7 +133,7 @@ module _ (T : Table) (w : Window) where
 
     pub turn-done : (s : List ℕ) (at behind : ℕ) → roundAt s (detectors w) at ≡ done bytes behind → turnAt T s w at ≡ done (turnOf T w bytes) behind
     turn-done s at behind e =
-        turn-steps s at ∙ goes-on onBytes e ∙ goes-on (onRound behind) round-received ∙ goes-on (onRan (left bytes) behind) round-run
+        turn-steps s at ∙ goes-on onBytes e ∙ goes-on (onRound behind) round-accepted ∙ goes-on (onRan (roundDone bytes) behind) round-run
 
   module _ (S : Suited T) (formed : wellFormed T w ≡ true) (rest : isRest (w .stage) ≡ true) (bytes : List ℕ) where
     pub turn-formed : wellFormed T (turnOf T w bytes .window) ≡ true

@@ -5,7 +5,7 @@ use Rattle.refusal.specs.Answer.{Answer, nextOr}
 use Rattle.refusal.specs.Writing.{Buffered}
 use Rattle.shape.specs.declared.Shape.{Shape}
 use Rattle.record.specs.Calls.{ResultBuffered}
-use Rattle.decoding.specs.Answers.{DecodeReturned as Decoding}
+use Rattle.decoding.specs.Answers.{DecodeReturned}
 use Rattle.reply.specs.Reply.{Reply, replied, ValueOut, valueBy, HeaderOut, headerBy, countBy}
 use Rattle.exports.specs.Calls.{bufferOut, bufferBy, taken, roundOut, roundBy, resultOut, resultBy, decodeOut, decodeBy}
 
@@ -21,10 +21,10 @@ module _ {S R Out : Type 0} (make : R → S → Out) (to : S → R) where
 pub buffer-left : (place : ℕ) {x l : Buffered} {r : Reply} → x ≡ l → r ≡ replied (x .answer) place → bufferOut r (x .buffer) ≡ bufferBy l place
 buffer-left place e q = parts (λ (r : Reply) (l : Buffered). bufferOut r (l .buffer)) (λ (l : Buffered). replied (l .answer) place) e q
 
-pub decode-left : (place : ℕ) {x l : Decoding} {v : ValueOut} → x ≡ l → v ≡ countBy (x .line) (x .count) place
+pub decode-left : (place : ℕ) {x l : DecodeReturned} {v : ValueOut} → x ≡ l → v ≡ countBy (x .line) (x .count) place
     → decodeOut (v .reply) (x .buffer) (v .value) ≡ decodeBy l place
 decode-left place =
-    parts (λ (v : ValueOut) (l : Decoding). decodeOut (v .reply) (l .buffer) (v .value)) (λ (l : Decoding). countBy (l .line) (l .count) place)
+    parts (λ (v : ValueOut) (l : DecodeReturned). decodeOut (v .reply) (l .buffer) (v .value)) (λ (l : DecodeReturned). countBy (l .line) (l .count) place)
 
 module _ (at place : ℕ) {n : ℕ} where
   pub header-left : (height distance : ℕ) {x l : Answer Shape} {h : HeaderOut} → x ≡ l → h ≡ headerBy x height distance place → n ≡ nextOr x at

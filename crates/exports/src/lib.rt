@@ -4,7 +4,8 @@
 //
 // A reader or writer returns 0 where it is done, 255 where no bytes are left, and else the refusal's number; unless it returns 0, it leaves
 // every buffer, value and lent offset as it was. `place` takes the offset behind the record, or that of the number's first byte with 7, 8 and 9,
-// and is left alone otherwise.
+// and is left alone otherwise. `baizeridge_decode` alone keeps what it finished: however it ends, `count` takes the length of what was written
+// at the front of `out`, the header if it was read and the finished rounds, and the bytes behind stay.
 ghost use mathlib.Core.Path.{_≡_};
 ghost use Rattle.reply.specs.Reply.{reply, valueOut, headerOut, scanOut};
 ghost use Rattle.exports.specs.Calls.{numberRead, bufferOut, numberWritten, listRead, listWritten, taken, headerRead, headerTaken, headerWritten, roundOut, roundRead, roundTaken, roundWritten, resultOut, resultRead, resultTaken, resultWritten, inputScanned, resultsScanned, decodeOut, streamDecoded, nodesBy, detectorsBy, edgesBy};

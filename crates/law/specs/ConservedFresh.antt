@@ -16,7 +16,7 @@ use Rattle.window.specs.LawsLists.{and-no, and-not}
 use Rattle.window.specs.Fresh.{freshWindow}
 use Rattle.closure.specs.Lists.{getD-same}
 use Rattle.closure.specs.After.{fresh-at}
-use Rattle.law.specs.Law.{Played, Spot, Detector, start, height, distance, sheets, last, inWindow, placeNow, received, standing, Conserved}
+use Rattle.law.specs.Law.{Played, Spot, Detector, start, height, distance, sheets, last, inWindow, placeNow, standing, Conserved}
 use Rattle.law.specs.Nodes.{defects}
 use Rattle.law.specs.Spots.{spot-lt}
 use Rattle.law.specs.Conserved.{ended-none, edged, slotOf, corrected, defective, conserved-by}

@@ -1,13 +1,12 @@
 -- A layer's edges and their numbers, there and back, for all shapes. Assumes nothing.
 use Prim.Native.Nat.{ℕ, _+_, _-_, _*_, _/_, _%_, _≤_, _<_}
-use native.Mathlib.Nat.{mul-le-mul, mod-lt, div-lt-iff-lt-mul, div-add-mod', add-zero}
+use native.Mathlib.Nat.{mod-lt, div-lt-iff-lt-mul, div-add-mod', add-zero}
 use native.Mathlib.Omega.{arith}
 use mathlib.Core.Path.{_≡_, refl, sym, _∙_, ap}
 use mathlib.Core.Logic.{⊎-elim}
 use Rattle.shape.specs.Choice.{order}
-use Rattle.shape.specs.Sizes.{detectorsOf, layerEdgesOf}
+use Rattle.shape.specs.Sizes.{layerEdgesOf}
 use Rattle.layers.specs.Layer.{edgeNumber, edgeIn, edgeOf, rowEdges, sheetEdges}
-use Rattle.shape.specs.Ranges.{Ranged}
 use Rattle.layers.specs.Cases.{edge-row, edge-column, edge-time}
 use Rattle.shape.specs.Counting.{quotient, rest, before}
 use Rattle.layers.specs.declared.Edge.{Edge}

@@ -1,10 +1,9 @@
 -- One turn of the loop over the nodes: what is seen in a direction, the node's step, and its three correction bits. Assumes nothing.
-use Prim.Native.Nat.{ℕ, zero, suc, _+_, _-_, _*_, _≤_, _<_}
-use native.Mathlib.Numerals.{add-one}
+use Prim.Native.Nat.{ℕ, _+_, _-_, _*_, _≤_, _<_}
 use native.Mathlib.Omega.{arith}
 use mathlib.Core.Path.{_≡_, refl, sym, _∙_, ap, subst}
 use mathlib.Core.Bool.{Bool, false, not}
-use mathlib.Core.List.{List, [], _∷_}
+use mathlib.Core.List.{List}
 use borrow.Author.Tests.{lt-ltb}
 use lib.Dec.{ltb}
 use lib.ListN.{length, getD, replicate}
@@ -14,7 +13,7 @@ use Rattle.shape.specs.Ranges.{both, in-range, nodes-of}
 use Rattle.shape.specs.Nodes.{numberOf, placeAt, isIndex, indexedIn}
 use Rattle.shape.specs.declared.Found.{Found}
 use Rattle.shape.specs.declared.Found.the-variants.{At, Nowhere}
-use Rattle.steps.specs.Steps.{base, step, here}
+use Rattle.steps.specs.Steps.{base, step}
 use Rattle.shape.specs.declared.Place.{Place}
 use Rattle.window.specs.Lists.{byPlace, over, any}
 use Rattle.window.specs.LawsLists.{getD-by, over-all}

@@ -11,10 +11,6 @@ use lib.Seq.{getD-drop, drop-cons, drop-drop}
 abbrev pub Bytes : List ℕ → Type 0
 Bytes s = (i : ℕ) → i < length s → getD s i 0 < 256
 
--- a list of bytes from an offset on is one
-pub bytes-drop : (s : List ℕ) (at : ℕ) → Bytes s → Bytes (drop at s)
-bytes-drop s at b i h = rw getD-drop (b (at + i) (omega (arith, simp length-drop at h)))
-
 -- THE NEXT ELEMENT
 
 pub record Next (s : List ℕ) (at x : ℕ) (rest : List ℕ) : Type 0 where

@@ -18,9 +18,6 @@ use lib.Seq.{take-suc, drop-cons, set-at, take-at, drop-at, take-add, drop-drop,
 abbrev pub filled : List ℕ → List ℕ → ℕ → List ℕ
 filled bytes old i = take i bytes ++ drop i old
 
-pub filled-none : (bytes old : List ℕ) → filled bytes old 0 ≡ old
-filled-none bytes old = refl
-
 pub filled-all : (bytes old : List ℕ) → filled bytes old (length bytes) ≡ bytes ++ drop (length bytes) old
 filled-all bytes old = rw take-length refl
 

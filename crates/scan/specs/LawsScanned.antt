@@ -24,7 +24,7 @@ use Rattle.scan.specs.declared.Round.{Round}
 use Rattle.scan.specs.declared.Round.the-variants as round
 
 -- a record that is passed: the count goes on behind it
-pub record Onward (from : List ℕ → Shape → ℕ → ℕ → Answer Scanned) (s : List ℕ) (sh : Shape) (at next n : ℕ) : Type 0 where
+pub record CountsOn (from : List ℕ → Shape → ℕ → ℕ → Answer Scanned) (s : List ℕ) (sh : Shape) (at next n : ℕ) : Type 0 where
   pub forward : at < next
   pub inside : next ≤ length s
   pub same : from s sh at n ≡ from s sh next (n + 1)
@@ -36,9 +36,9 @@ pub record Headed (from : List ℕ → Shape → ℕ → ℕ → Answer Scanned)
 
 -- how one record, the records from an offset on and the whole stream hang together
 pub record Counts (one : List ℕ → Shape → ℕ → Answer (Unit {0})) (from : List ℕ → Shape → ℕ → ℕ → Answer Scanned) (whole : List ℕ → Answer Scanned) : Type 0 where
-  pub on : (s : List ℕ) (sh : Shape) (at n next : ℕ) → Bytes s → one s sh at ≡ done tt next → Onward from s sh at next n
+  pub on : (s : List ℕ) (sh : Shape) (at n next : ℕ) → Bytes s → one s sh at ≡ done tt next → CountsOn from s sh at next n
   pub refuses : (s : List ℕ) (sh : Shape) (at n : ℕ) (f : Refusal) → one s sh at ≡ turned f → from s sh at n ≡ turned f
-  pub left : (s : List ℕ) (sh : Shape) (at : ℕ) → one s sh at ≡ ended → length s ≤ at
+  pub only-at-end : (s : List ℕ) (sh : Shape) (at : ℕ) → one s sh at ≡ ended → length s ≤ at
   pub end : (s : List ℕ) (sh : Shape) (n : ℕ) → from s sh (length s) n ≡ done (record { shape = sh; rounds = n }) (length s)
   pub headed : (s : List ℕ) (sh : Shape) (next : ℕ) → Bytes s → headerAt s 0 ≡ done sh next → Headed from whole s sh next
   pub unheaded : (s : List ℕ) (f : Refusal) → headerAt s 0 ≡ turned f → whole s ≡ turned f
@@ -101,7 +101,7 @@ module _ {A : Type 0} (read : List ℕ → Shape → ℕ → Answer A) (write : 
           go (refused i) e on = records-as n at (refused i) e ∙ sym (records-as m at (refused i) e)
           go (refusedAt i o) e on = records-as n at (refusedAt i o) e ∙ sym (records-as m at (refusedAt i o) e)
 
-      counted-on : (at n : ℕ) (r : A) (next : ℕ) → read s sh at ≡ done r next → Onward (countedFrom read) s sh at next n
+      counted-on : (at n : ℕ) (r : A) (next : ℕ) → read s sh at ≡ done r next → CountsOn (countedFrom read) s sh at next n
       counted-on at n r next e =
           let w = kind .trips .writes s sh at r next b e .0 in
           record {
@@ -142,7 +142,7 @@ counts-of : {A : Type 0} (read : List ℕ → Shape → ℕ → Answer A) (write
 counts-of read write fits kind = record {
   on = λ s sh at n next b e. let w = done-on (read s sh at) next e in counted-on read write fits kind s sh b at n (w .0) next (w .1);
   refuses = λ s sh at n f e. counted-turned read write fits kind s sh at n f (turned-back (read s sh at) f e);
-  left = λ s sh at e. kind .left s sh at (ended-back (read s sh at) e);
+  only-at-end = λ s sh at e. kind .only-at-end s sh at (ended-back (read s sh at) e);
   end = λ s sh n. counted-end read write fits kind s sh n;
   headed = λ s sh next b e. scanned-on read write fits kind s b sh next e;
   unheaded = λ s f e. scanned-turned read write fits kind s f e;

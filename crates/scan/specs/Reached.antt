@@ -4,7 +4,6 @@ use native.Mathlib.Omega.{arith}
 use mathlib.Core.Path.{_≡_, sym, _∙_, ap, subst}
 use mathlib.Core.Bool.{true, false}
 use mathlib.Core.List.{List}
-use lib.Dec.{ltb}
 use lib.ListN.{length}
 use borrow.Author.Tests.{ltb-true, ltb-false}
 use Rattle.refusal.specs.Answer.{done, ended, turned, nextOr}
@@ -73,7 +72,7 @@ module _ (k : Round) (s : List ℕ) where
 
     -- bytes are left, so it was no end
     pub no-end : goesOn (Rounds sh n) (length s - at) ≡ true → passedBy k s sh at ≡ ended → ⊥
-    no-end g e = let l = counts k .left s sh at e in let h = ltb-true 0 (length s - at) g in omega arith
+    no-end g e = let l = counts k .only-at-end s sh at e in let h = ltb-true 0 (length s - at) g in omega arith
 
   -- reading goes on no further: the whole stream was read
   pub finished : (read : StreamRead) (at : ℕ) → Reached k s read at → goesOn read (length s - at) ≡ false → streamAnswer read (length s) ≡ scannedBy k s

@@ -20,7 +20,7 @@ use Rattle.decoding.specs.LawsDecoding.{record-unformed, record-forward, record
 use Rattle.session.proofs.Laid.{laid-none, laid-long, laid-more}
 
 -- a record that is written: the rounds go on behind it, with a well-formed window
-pub record Onward (s : List ℕ) (w : Window) (at : ℕ) (old : List ℕ) (to : ℕ) (v : Window) (next : ℕ) (new : List ℕ) (behind : ℕ) : Type 0 where
+pub record PassedOn (s : List ℕ) (w : Window) (at : ℕ) (old : List ℕ) (to : ℕ) (v : Window) (next : ℕ) (new : List ℕ) (behind : ℕ) : Type 0 where
   pub forward : at < next
   pub inside : next ≤ length s
   pub formed : wellFormed base v ≡ true
@@ -61,10 +61,10 @@ module _ (s : List ℕ) (w : Window) (at : ℕ) (old : List ℕ) (to : ℕ) wher
             let z : _≡_ {A = ℕ} 0 1 = cc p in
             absurd (omega arith)
 
-    pub pass-on : Bytes s → (next behind : ℕ) → a ≡ answers.to next behind → Onward s w at old to v next new behind
+    pub pass-on : Bytes s → (next behind : ℕ) → a ≡ answers.to next behind → PassedOn s w at old to v next new behind
     pass-on b next behind k = go entry refl
       where
-        go : (r : Recorded) → entry ≡ r → Onward s w at old to v next new behind
+        go : (r : Recorded) → entry ≡ r → PassedOn s w at old to v next new behind
         go (stopped o) e =
             let p : answers.to next behind ≡ over o = sym k ∙ ap (λ (x : RecordReturned). x .answer) (made-as (stopped o) e) in
             let z : _≡_ {A = ℕ} 0 1 = cc p in

@@ -1,4 +1,5 @@
-// The table of steps between nodes: for each pointer where it leads, the pointer back, and the edge that it goes along.
+// The table of steps between nodes: for each pointer where it leads, the pointer back, and the edge that it goes along. Code asks it for the
+// step back and for a D; the rules, whose table this is, for all of it.
 ghost use mathlib.Core.Path.{_≡_};
 ghost use Rattle.steps.specs.Steps.{base, step as stepIn, falls as fallsIn};
 

@@ -8,7 +8,7 @@ use borrow.Author.Tests.{ltb-true, eqb-true, lt-ltb, le-ltb, eq-eqb, ne-eqb}
 use native.Mathlib.Omega.{arith}
 use lib.Dec.{ltb, eqb}
 use lib.ListN.{length, drop}
-use Rattle.refusal.specs.Answer.{Answer, refused, turned, unless, withoutValue}
+use Rattle.refusal.specs.Answer.{Answer, refused, turned, unless}
 use Rattle.refusal.specs.Tests.{turned-first}
 use Rattle.refusal.specs.Done.{took}
 use Rattle.refusal.specs.declared.Refusal.{Refusal}

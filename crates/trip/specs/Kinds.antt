@@ -49,7 +49,7 @@ kind read write fits trips noEnd = record {
     some = trips .some;
   };
   ends = λ s sh at h. at-end s at (read s sh at) h;
-  left = λ s sh at e. ended-only s at (read s sh at) (noEnd s sh at) e;
+  only-at-end = λ s sh at e. ended-only s at (read s sh at) (noEnd s sh at) e;
 }
 
 -- THE SIZES, which are numbers of the stream

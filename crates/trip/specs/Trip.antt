@@ -33,7 +33,7 @@ pub record Trips {A : Type 0} (read : List ℕ → Shape → ℕ → Answer A) (
 pub record Kind {A : Type 0} (read : List ℕ → Shape → ℕ → Answer A) (write : A → List ℕ) (fits : Shape → A → Type 0) : Type 0 where
   pub trips : Trips read write fits
   pub ends : (s : List ℕ) (sh : Shape) (at : ℕ) → length s ≤ at → read s sh at ≡ ended
-  pub left : (s : List ℕ) (sh : Shape) (at : ℕ) → read s sh at ≡ ended → length s ≤ at
+  pub only-at-end : (s : List ℕ) (sh : Shape) (at : ℕ) → read s sh at ≡ ended → length s ≤ at
 
 -- READING BY ITS STEPS
 
@@ -159,7 +159,7 @@ module _ {A : Type 0} (read : List ℕ → Shape → ℕ → Answer A) (write : 
           subst₂ (λ (x : List A) (i : ℕ). RecordsWrite write fits s sh at x i) same last
           (record { bytes = w .0 .bytes ∙ ap (λ (l : List ℕ). write r ++ l) (o .bytes); right = (w .1, o .right); whole = o .whole })
       go ended q others =
-          let p : length s ≤ at = kind .left s sh at q in
+          let p : length s ≤ at = kind .only-at-end s sh at q in
           let d : _≡_ {A = Answer (List A)} (done [] at) (done rs end) = step ended q in
           let same : [] ≡ rs = cc in
           let last : at ≡ end = cc in

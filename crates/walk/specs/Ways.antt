@@ -9,7 +9,6 @@ use borrow.Author.Tests.{le-ltb, ltb-true, ltb-false, eq-eqb, ne-eqb, eqb-true, 
 use lib.Dec.{ltb, leb, eqb}
 use Rattle.shape.specs.Choice.{tell, order}
 use Rattle.shape.specs.Sizes.{sheetsOf, boundary}
-use Rattle.shape.specs.Ranges.{halves, both}
 use Rattle.shape.specs.Nodes.{indexOf}
 use Rattle.steps.specs.Steps.{base, step, goes, fits, stays, alongRow, across, insideOf, bothDetectors, joined, slot, north, west, east, south, down, up}
 use Rattle.steps.specs.Proper.{no-pointer}

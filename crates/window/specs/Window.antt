@@ -1,12 +1,12 @@
 -- What stands in a window: by node, and over a step. Everything is over a table of steps T. Assumes nothing.
-use Prim.Native.Nat.{ℕ, zero, suc, _+_, _*_}
+use Prim.Native.Nat.{ℕ, suc, _+_, _*_}
 use mathlib.Core.Bool.{Bool, true, false, _&&_, not}
 use mathlib.Core.List.{List, [], _∷_}
-use lib.Dec.{ltb, eqb}
+use lib.Dec.{eqb}
 use lib.ListN.{getD}
 use Rattle.shape.specs.Sizes.{sheetsOf, boundary, nodesOf}
 use Rattle.shape.specs.Nodes.{indexOf, placeAt}
-use Rattle.steps.specs.Steps.{Table, step, near, slot}
+use Rattle.steps.specs.Steps.{Table, near, slot}
 use Rattle.shape.specs.declared.Place.{Place}
 use Rattle.steps.specs.declared.Step.{Step}
 use Rattle.shape.specs.declared.Found.the-variants.{At, Nowhere}

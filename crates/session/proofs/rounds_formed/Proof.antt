@@ -8,7 +8,7 @@ use lib.ListN.{length}
 use Rattle.steps.specs.Steps.{base}
 use Rattle.window.specs.Formed.{wellFormed}
 use Rattle.decoding.specs.Answers.{lineOf, recordAnswer, roundsLeave}
-use Rattle.session.proofs.Passing.{Onward, pass-stop, pass-on}
+use Rattle.session.proofs.Passing.{PassedOn, pass-stop, pass-on}
 use Rattle.session.proofs.rounds_formed.Statement.{statement}
 use Rattle.session.proofs.rounds_formed.Tie as tie
 
@@ -23,7 +23,7 @@ abbrev μ-loop : tie.MeasureT-loop
 on : (c : tie.After-answer2 Inv-loop μ-loop) →
     let r = c .before .before .before .before in
     let l = r .before .before .loop in
-    Onward (r .before .before .before .before .before .args .src .now) (l .window) (l .i) (l .out) (l .j) (r .decode-formed .result .window) (c .answer2 .given .0 .0) (r .decode-formed .last .1 .1 .1 .0) (c .answer2 .given .0 .1 .0)
+    PassedOn (r .before .before .before .before .before .args .src .now) (l .window) (l .i) (l .out) (l .j) (r .decode-formed .result .window) (c .answer2 .given .0 .0) (r .decode-formed .last .1 .1 .1 .0) (c .answer2 .given .0 .1 .0)
 on c =
     let r = c .before .before .before .before in
     let l = r .before .before .loop in
