@@ -17,7 +17,7 @@ use Rattle.shape.specs.Choice.{if}
 use Rattle.steps.specs.Steps.{Table}
 use Rattle.shape.specs.declared.Shape.{Shape}
 use Rattle.record.specs.Records.{roundAt, Result, result}
-use Rattle.trip.specs.Fits.{CommitFits}
+use Rattle.trip.specs.Fits.{RecordFits}
 use Rattle.window.specs.Window.{isRest, isToGrow}
 use Rattle.window.specs.Round.{rounded, committedEdges, escapedDefects}
 use Rattle.window.specs.Grow.{grown}
@@ -142,12 +142,12 @@ module _ (T : Table) (s : List ℕ) (w : Window) (at : ℕ) (bytes : List ℕ) (
         ∙ ap (λ (r : Ran). isRest (r .window .stage)) (sym (staged-run .1))
         ∙ ran-rests T (p .round .window) (ap (λ (r : Ran). r .rest) (staged-run .1) ∙ p .rests)
 
-    pub by-fits : CommitFits sh resultBy
+    pub by-fits : RecordFits sh resultBy
     by-fits =
         let a : p .round .edges ≡ committedEdges T w = ap (λ (r : Round). r .edges) (sym gave) in
         let b : p .round .escapes ≡ escapedDefects w = ap (λ (r : Round). r .escapes) (sym gave) in
         let c : p .run .count ≡ ran T budget (p .round .window) .count = ap (λ (r : Ran). r .count) (sym (staged-run .1)) in
-        subst (λ (x : Shape). CommitFits x resultBy) same
+        subst (λ (x : Shape). RecordFits x resultBy) same
         (record {
           edges = record { size = rw a (committed-long T w); bits = rw a (committed-bits T w) };
           escapes = record { size = rw b (escaped-long w); bits = rw b (escaped-bits w) };

@@ -13,7 +13,7 @@ use Rattle.steps.specs.Steps.{Table}
 use Rattle.shape.specs.declared.Shape.{Shape}
 use Rattle.record.specs.Records.{Result, result}
 use Rattle.trip.specs.Streams.{allBytes}
-use Rattle.trip.specs.Fits.{Each, RoundFits, CommitFits, detectorsIn, edgesIn}
+use Rattle.trip.specs.Fits.{Each, RoundFits, RecordFits, detectorsIn, edgesIn}
 use Rattle.window.specs.Window.{isRest}
 use Rattle.window.specs.Calls.{Round, windowOf, roundCall}
 use Rattle.window.specs.declared.Ran.{Ran}
@@ -30,7 +30,7 @@ pub record Followed (T : Table) (s : List ℕ) (sh : Shape) (w : Window) (at : �
   pub rounds : List (List ℕ)
   pub results : List Result
   pub rounds-fit : Each (RoundFits sh) rounds
-  pub results-fit : Each (CommitFits sh) results
+  pub results-fit : Each (RecordFits sh) results
   pub each : length results ≡ length rounds
   pub reads : drop at s ≡ allBytes listed rounds ++ drop (r .next) s
   pub writes : r .output ≡ allBytes result results

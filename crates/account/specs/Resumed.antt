@@ -10,7 +10,7 @@ use Rattle.steps.specs.Steps.{Table}
 use Rattle.shape.specs.declared.Shape.{Shape}
 use Rattle.record.specs.Records.{Result, result}
 use Rattle.trip.specs.Streams.{allBytes}
-use Rattle.trip.specs.Fits.{Each, RoundFits, CommitFits}
+use Rattle.trip.specs.Fits.{Each, RoundFits, RecordFits}
 use Rattle.window.specs.declared.Window.{Window}
 use Rattle.law.specs.Law.{Call, Receipt, Played, returned, receipted, play}
 use Rattle.law.specs.Play.{play-append}
@@ -79,7 +79,7 @@ module _ (T : Table) (s : List ℕ) (sh : Shape) (w : Window) (at : ℕ) (r q : 
         rounds = f .rounds ++ g .rounds;
         results = f .results ++ g .results;
         rounds-fit = each-append (RoundFits sh) (f .rounds) (g .rounds) (f .rounds-fit) (g .rounds-fit);
-        results-fit = each-append (CommitFits sh) (f .results) (g .results) (f .results-fit) (g .results-fit);
+        results-fit = each-append (RecordFits sh) (f .results) (g .results) (f .results-fit) (g .results-fit);
         each = length-append (f .results) (g .results) ∙ ap₂ (λ (k l : ℕ). k + l) (f .each) (g .each) ∙ sym (length-append (f .rounds) (g .rounds));
         reads =
             f .reads

@@ -36,9 +36,9 @@ mark-lowered stage h d Reset st d1 e = absurd (rest-not-merging stage st e)
 mark-lowered stage h d (Root m) st d1 e = lt-ltb _ _ (lowered-lt h d m d1 (ltb-true m (nodesIn h d (sheetsOf d + 1)) e))
 
 -- a boundary receives no defect
-received-fits : (b x : Bool) → not (b && (not b && x)) ≡ true
-received-fits true x = refl
-received-fits false x = refl
+top-fits : (b x : Bool) → not (b && (not b && x)) ≡ true
+top-fits true x = refl
+top-fits false x = refl
 
 module _ (T : Table) (S : Suited T) (w : Window) (bytes : List ℕ) (f : Facts T w) (st : isRest (w .stage) ≡ true) where
   abbrev h : ℕ
@@ -95,7 +95,7 @@ module _ (T : Table) (S : Suited T) (w : Window) (bytes : List ℕ) (f : Facts T
   node-fits : (g : ℕ) → g < size w → Fits T ToGrow h d (place w g) (at (rounded T w bytes) g)
   unfolding topNode
   node-fits g l =
-      ⊎-elim (λ m. rw (top-at T w g l bytes m) (alone-fits T ToGrow h d (f .ranged) g l _ (received-fits (boundary d (place w g .column)) _)))
+      ⊎-elim (λ m. rw (top-at T w g l bytes m) (alone-fits T ToGrow h d (f .ranged) g l _ (top-fits (boundary d (place w g .column)) _)))
       (λ m. rw (sunk-at T w g l bytes (above g l m) (above-is g l m)) (sunk-fits g l m))
       (order g (sheet w))
 

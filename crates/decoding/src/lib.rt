@@ -15,13 +15,13 @@ pub enum Record {
     Stopped(Ending),
 }
 
-pub struct Recorded {
+pub struct RecordGiven {
     pub answer: Record,
     pub window: Window,
 }
 
 // Round after round: how it ended, with which window, at which offset of the input, and the offset behind what was written.
-pub struct Rounds {
+pub struct RoundsGiven {
     pub ending: Ending,
     pub window: Window,
     pub at: usize,
@@ -29,7 +29,7 @@ pub struct Rounds {
 }
 
 // How a whole stream's decoding ended, and the bytes written.
-pub struct Decoded {
+pub struct DecodeGiven {
     pub ending: Ending,
     pub count: usize,
 }

@@ -18,27 +18,27 @@ module _ {S R Out : Type 0} (make : R → S → Out) (to : S → R) where
   taken-parts : (next : S → ℕ) {x l : S} {r : R} {n : ℕ} → x ≡ l → r ≡ to x → n ≡ next x → taken (make r x) n ≡ taken (make (to l) l) (next l)
   taken-parts next {x} {l} {r} e q m = ap (λ (k : ℕ). taken (make r x) k) m ∙ ap₂ (λ (o : Out) (k : ℕ). taken o k) (parts e q) (ap next e)
 
-pub buffer-left : (place : ℕ) {x l : Buffered} {r : Reply} → x ≡ l → r ≡ replied (x .answer) place → bufferOut r (x .buffer) ≡ bufferBy l place
-buffer-left place e q = parts (λ (r : Reply) (l : Buffered). bufferOut r (l .buffer)) (λ (l : Buffered). replied (l .answer) place) e q
+pub buffer-out : (place : ℕ) {x l : Buffered} {r : Reply} → x ≡ l → r ≡ replied (x .answer) place → bufferOut r (x .buffer) ≡ bufferBy l place
+buffer-out place e q = parts (λ (r : Reply) (l : Buffered). bufferOut r (l .buffer)) (λ (l : Buffered). replied (l .answer) place) e q
 
-pub decode-left : (place : ℕ) {x l : DecodeReturned} {v : ValueOut} → x ≡ l → v ≡ countBy (x .line) (x .count) place
+pub decode-out : (place : ℕ) {x l : DecodeReturned} {v : ValueOut} → x ≡ l → v ≡ countBy (x .line) (x .count) place
     → decodeOut (v .reply) (x .buffer) (v .value) ≡ decodeBy l place
-decode-left place =
+decode-out place =
     parts (λ (v : ValueOut) (l : DecodeReturned). decodeOut (v .reply) (l .buffer) (v .value)) (λ (l : DecodeReturned). countBy (l .line) (l .count) place)
 
 module _ (at place : ℕ) {n : ℕ} where
-  pub header-left : (height distance : ℕ) {x l : Answer Shape} {h : HeaderOut} → x ≡ l → h ≡ headerBy x height distance place → n ≡ nextOr x at
+  pub header-out : (height distance : ℕ) {x l : Answer Shape} {h : HeaderOut} → x ≡ l → h ≡ headerBy x height distance place → n ≡ nextOr x at
       → taken h n ≡ taken (headerBy l height distance place) (nextOr l at)
-  header-left height distance =
+  header-out height distance =
       taken-parts (λ (h : HeaderOut) (l : Answer Shape). h) (λ (l : Answer Shape). headerBy l height distance place) (λ (l : Answer Shape). nextOr l at)
 
-  pub round-left : {x l : Buffered} {r : Reply} → x ≡ l → r ≡ replied (x .answer) place → n ≡ nextOr (x .answer) at
+  pub round-out : {x l : Buffered} {r : Reply} → x ≡ l → r ≡ replied (x .answer) place → n ≡ nextOr (x .answer) at
       → taken (roundOut r (x .buffer)) n ≡ taken (roundBy l place) (nextOr (l .answer) at)
-  round-left = taken-parts (λ (r : Reply) (l : Buffered). roundOut r (l .buffer)) (λ (l : Buffered). replied (l .answer) place) (λ (l : Buffered). nextOr (l .answer) at)
+  round-out = taken-parts (λ (r : Reply) (l : Buffered). roundOut r (l .buffer)) (λ (l : Buffered). replied (l .answer) place) (λ (l : Buffered). nextOr (l .answer) at)
 
-  pub result-left : (steps : ℕ) {x l : ResultBuffered} {v : ValueOut} → x ≡ l → v ≡ valueBy (x .answer) steps place → n ≡ nextOr (x .answer) at
+  pub result-out : (steps : ℕ) {x l : ResultBuffered} {v : ValueOut} → x ≡ l → v ≡ valueBy (x .answer) steps place → n ≡ nextOr (x .answer) at
       → taken (resultOut (v .reply) (x .edges) (x .escapes) (v .value)) n ≡ taken (resultBy l steps place) (nextOr (l .answer) at)
-  result-left steps =
+  result-out steps =
       taken-parts
       (λ (v : ValueOut) (l : ResultBuffered). resultOut (v .reply) (l .edges) (l .escapes) (v .value))
       (λ (l : ResultBuffered). valueBy (l .answer) steps place)

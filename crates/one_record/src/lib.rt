@@ -1,7 +1,7 @@
 // One record of the decoding: its tests, the end, the last round, and then the round that is read.
 use decoding::Ending;
 use decoding::Record;
-use decoding::Recorded;
+use decoding::RecordGiven;
 use list::Listed;
 use refusal::Refusal;
 use window::Called;
@@ -37,7 +37,7 @@ fn test_record(w: Window, src: &[u8], at: usize, size: usize, to: usize) -> Call
 }
 
 // Reads the round at an offset, where the tests passed and bytes are left, receives it, runs the window, and writes the record.
-fn decode_read(w: Window, src: &[u8], at: usize, out: &mut [u8], to: usize) -> Recorded
+fn decode_read(w: Window, src: &[u8], at: usize, out: &mut [u8], to: usize) -> RecordGiven
     requires { ⌜ wellFormed base w ≡ true ⌝ }
     requires { ⌜ isRest (w .stage) ≡ true ⌝ }
     requires { ⌜ w .next < 4294967295 ⌝ }
@@ -48,7 +48,7 @@ fn decode_read(w: Window, src: &[u8], at: usize, out: &mut [u8], to: usize) -> R
     let n = shape::detectors(w.shape);
     let mut bytes = [0; 210];
     match list::read_list(src, at, &mut bytes[..n]) {
-        Listed::Refused(f) => Recorded {
+        Listed::Refused(f) => RecordGiven {
             answer: Record::Stopped(Ending::Refused(f)),
             window: w,
         },
@@ -57,26 +57,26 @@ fn decode_read(w: Window, src: &[u8], at: usize, out: &mut [u8], to: usize) -> R
 }
 
 // Decodes one record of a well-formed window: its tests, the end, the last round, then the round.
-pub fn decode_formed(w: Window, src: &[u8], at: usize, out: &mut [u8], to: usize) -> Recorded
+pub fn decode_formed(w: Window, src: &[u8], at: usize, out: &mut [u8], to: usize) -> RecordGiven
     requires { ⌜ wellFormed base w ≡ true ⌝ }
     ensures { λ r. ⌜ recordReturned (recordAnswer (r .answer)) (r .window) (now (out .exit)) ≡ recordLeaves base (now (src .entry)) w at (now (out .entry)) to ⌝ }
 {
     let next = w.next;
     let tested = test_record(w, src, at, out.len(), to);
     if let Called::Refused(f) = tested {
-        return Recorded {
+        return RecordGiven {
             answer: Record::Stopped(Ending::Refused(f)),
             window: w,
         };
     }
     if src.len() <= at {
-        return Recorded {
+        return RecordGiven {
             answer: Record::Stopped(Ending::Finished),
             window: w,
         };
     }
     if next == 4294967295 {
-        return Recorded {
+        return RecordGiven {
             answer: Record::Stopped(Ending::Refused(Refusal::LastRound)),
             window: w,
         };
@@ -85,11 +85,11 @@ pub fn decode_formed(w: Window, src: &[u8], at: usize, out: &mut [u8], to: usize
 }
 
 // Decodes one record: reads the round at an offset, receives it, runs the window, and writes the record from an offset on.
-pub fn decode_record(w: Window, src: &[u8], at: usize, out: &mut [u8], to: usize) -> Recorded
+pub fn decode_record(w: Window, src: &[u8], at: usize, out: &mut [u8], to: usize) -> RecordGiven
     ensures { λ r. ⌜ recordReturned (recordAnswer (r .answer)) (r .window) (now (out .exit)) ≡ recordLeaves base (now (src .entry)) w at (now (out .entry)) to ⌝ }
 {
     if !formed::well_formed(w) {
-        return Recorded {
+        return RecordGiven {
             answer: Record::Stopped(Ending::Refused(Refusal::NotWellFormed)),
             window: w,
         };

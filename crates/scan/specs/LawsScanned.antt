@@ -15,7 +15,7 @@ use Rattle.shape.specs.declared.Shape.{Shape}
 use Rattle.record.specs.Records.{header, headerAt, result}
 use Rattle.record.specs.Laws.{length-header}
 use Rattle.trip.specs.Streams.{recordsAt, streamOf, roundOf, resultOf}
-use Rattle.trip.specs.Fits.{RoundFits, CommitFits}
+use Rattle.trip.specs.Fits.{RoundFits, RecordFits}
 use Rattle.trip.specs.Header.{HeaderWrites, header-writes}
 use Rattle.trip.specs.Trip.{Kind, onMore, onRecord, records-steps, onRecords, onHeader, stream-steps}
 use Rattle.trip.specs.Kinds.{round-kind, result-kind}
@@ -150,4 +150,4 @@ counts-of read write fits kind = record {
 
 pub counts : (k : Round) → Counts (passedBy k) (countedBy k) (scannedBy k)
 counts round.Input = counts-of roundOf listed RoundFits round-kind
-counts round.Result = counts-of resultOf result CommitFits result-kind
+counts round.Result = counts-of resultOf result RecordFits result-kind

@@ -1,8 +1,8 @@
 // Decoding an input stream into a result stream, on slices: round after round, and the whole stream.
-use decoding::Decoded;
+use decoding::DecodeGiven;
 use decoding::Ending;
 use decoding::Record;
-use decoding::Rounds;
+use decoding::RoundsGiven;
 use number::Wrote;
 use record::HeaderRead;
 use refusal::Refusal;
@@ -14,7 +14,7 @@ ghost use Rattle.window.specs.Formed.{wellFormed};
 ghost use Rattle.decoding.specs.Answers.{lineOf, roundsReturned, roundsLeave, decodeReturned, decodeLeaves};
 
 // Decodes round after round of a well-formed window, which each record leaves well-formed.
-fn rounds_formed(w: Window, src: &[u8], at: usize, out: &mut [u8], to: usize) -> Rounds
+fn rounds_formed(w: Window, src: &[u8], at: usize, out: &mut [u8], to: usize) -> RoundsGiven
     requires { ⌜ wellFormed base w ≡ true ⌝ }
     ensures { λ r. ⌜ roundsReturned (lineOf (r .ending)) (r .window) (r .at) (r .to) (now (out .exit)) ≡ roundsLeave base (now (src .entry)) w at (now (out .entry)) to ⌝ }
 {
@@ -26,7 +26,7 @@ fn rounds_formed(w: Window, src: &[u8], at: usize, out: &mut [u8], to: usize) ->
         let answer = r.answer;
         match answer {
             Record::Stopped(ending) => {
-                return Rounds {
+                return RoundsGiven {
                     ending,
                     window,
                     at: i,
@@ -43,11 +43,11 @@ fn rounds_formed(w: Window, src: &[u8], at: usize, out: &mut [u8], to: usize) ->
 }
 
 // Decodes round after round from an offset on, and writes their records from an offset on. The window is tested once.
-pub fn decode_rounds(w: Window, src: &[u8], at: usize, out: &mut [u8], to: usize) -> Rounds
+pub fn decode_rounds(w: Window, src: &[u8], at: usize, out: &mut [u8], to: usize) -> RoundsGiven
     ensures { λ r. ⌜ roundsReturned (lineOf (r .ending)) (r .window) (r .at) (r .to) (now (out .exit)) ≡ roundsLeave base (now (src .entry)) w at (now (out .entry)) to ⌝ }
 {
     if !formed::well_formed(w) {
-        return Rounds {
+        return RoundsGiven {
             ending: Ending::Refused(Refusal::NotWellFormed),
             window: w,
             at,
@@ -58,16 +58,16 @@ pub fn decode_rounds(w: Window, src: &[u8], at: usize, out: &mut [u8], to: usize
 }
 
 // Decodes a whole stream: the header and the rounds, written from the buffer's front on.
-pub fn decode(src: &[u8], out: &mut [u8]) -> Decoded
+pub fn decode(src: &[u8], out: &mut [u8]) -> DecodeGiven
     ensures { λ r. ⌜ decodeReturned (lineOf (r .ending)) (r .count) (now (out .exit)) ≡ decodeLeaves base (now (src .entry)) (now (out .entry)) ⌝ }
 {
     match record::read_header(src, 0) {
-        HeaderRead::Refused(f) => Decoded {
+        HeaderRead::Refused(f) => DecodeGiven {
             ending: Ending::Refused(f),
             count: 0,
         },
         HeaderRead::Shape(shape, next) => match record::write_header(shape, out, 0) {
-            Wrote::Not(f) => Decoded {
+            Wrote::Not(f) => DecodeGiven {
                 ending: Ending::Refused(f),
                 count: 0,
             },
@@ -76,7 +76,7 @@ pub fn decode(src: &[u8], out: &mut [u8]) -> Decoded
                 let window = fresh.window;
                 let r = decode_rounds(window, src, next, out, to);
                 let ending = r.ending;
-                Decoded {
+                DecodeGiven {
                     ending,
                     count: r.to,
                 }

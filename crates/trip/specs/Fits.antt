@@ -31,7 +31,7 @@ abbrev pub RoundFits : Shape → List ℕ → Type 0
 RoundFits sh round = Entries (detectorsIn sh) round
 
 -- a round of the result: an entry for each edge of the layer and for each detector, and a number of steps that can be written
-pub record CommitFits (sh : Shape) (r : Result) : Type 0 where
+pub record RecordFits (sh : Shape) (r : Result) : Type 0 where
   pub edges : Entries (edgesIn sh) (r .edges)
   pub escapes : Entries (detectorsIn sh) (r .escapes)
   pub steps : r .steps ≤ largest
@@ -49,4 +49,4 @@ abbrev pub InputFits : Stream (List ℕ) → Type 0
 InputFits t = Fits RoundFits t
 
 abbrev pub ResultFits : Stream Result → Type 0
-ResultFits t = Fits CommitFits t
+ResultFits t = Fits RecordFits t

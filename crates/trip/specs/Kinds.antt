@@ -21,7 +21,7 @@ use Rattle.list.specs.Laws.{length-listed}
 use Rattle.shape.specs.declared.Shape.{Shape}
 use Rattle.record.specs.Records.{unlessEnded, Result, result, resultFrom}
 use Rattle.trip.specs.Streams.{roundOf, resultOf}
-use Rattle.trip.specs.Fits.{edgesIn, detectorsIn, Entries, RoundFits, CommitFits, InRange}
+use Rattle.trip.specs.Fits.{edgesIn, detectorsIn, Entries, RoundFits, RecordFits, InRange}
 use Rattle.trip.specs.Header.{ranges}
 use Rattle.record.specs.Laws.{at-end, before-end, onSteps, onEscapes, onEdges, result-steps, result-done, length-result}
 use Rattle.trip.specs.Trip.{RecordWrites, Trips, Kind}
@@ -103,7 +103,7 @@ result-no-end s edges detectors at =
     no-end-then (listAt s detectors next) (onEscapes s c) (list-no-end s detectors next) (λ x last.
     no-end-then (numberAt s last) (onSteps c x) (number-no-end s last) (λ n behind. tt)))
 
-result-reads : (s : List ℕ) (sh : Shape) (at : ℕ) (r : Result) (rest : List ℕ) → InRange sh → CommitFits sh r → drop at s ≡ result r ++ rest
+result-reads : (s : List ℕ) (sh : Shape) (at : ℕ) (r : Result) (rest : List ℕ) → InRange sh → RecordFits sh r → drop at s ≡ result r ++ rest
     → resultFrom s (edgesIn sh) (detectorsIn sh) at ≡ done r (at + length (result r))
 unfolding result
 result-reads s sh at r rest range f e =
@@ -126,7 +126,7 @@ result-reads s sh at r rest range f e =
 
 result-writes : (s : List ℕ) (sh : Shape) (at : ℕ) (r : Result) (next : ℕ) → Bytes s
     → resultFrom s (edgesIn sh) (detectorsIn sh) at ≡ done r next
-    → RecordWrites result s at r next × CommitFits sh r
+    → RecordWrites result s at r next × RecordFits sh r
 unfolding result
 result-writes s sh at r next b e =
     let edges : ℕ = edgesIn sh in
@@ -144,13 +144,13 @@ result-writes s sh at r next b e =
     w₁ .bytes
     ∙ ap (λ (l : List ℕ). listed (g₁ .value) ++ l) (w₂ .bytes ∙ ap (λ (l : List ℕ). listed (g₂ .value) ++ l) (w₃ .bytes))
     ∙ sym (simp append-assoc) in
-    subst₂ (λ (x : Result) (i : ℕ). RecordWrites result s at x i × CommitFits sh x) same last (
+    subst₂ (λ (x : Result) (i : ℕ). RecordWrites result s at x i × RecordFits sh x) same last (
       record { bytes = bytes; forward = omega arith; inside = w₃ .inside },
       record { edges = entries-fit w₁; escapes = entries-fit w₂; steps = w₃ .small },
     )
 
-pub result-kind : Kind resultOf result CommitFits
+pub result-kind : Kind resultOf result RecordFits
 result-kind =
-    kind (λ s sh at. resultFrom s (edgesIn sh) (detectorsIn sh) at) result CommitFits
+    kind (λ s sh at. resultFrom s (edgesIn sh) (detectorsIn sh) at) result RecordFits
     (record { reads = result-reads; writes = result-writes; some = length-result })
     (λ s sh at. result-no-end s (edgesIn sh) (detectorsIn sh) at)

@@ -9,7 +9,7 @@ use Rattle.refusal.specs.Bytes.{Bytes}
 use Rattle.list.specs.Sheet.{listed}
 use Rattle.record.specs.Records.{Result, result}
 use Rattle.trip.specs.Streams.{Stream, roundOf, resultOf, inputOf, inputBytes, resultsOf, resultBytes}
-use Rattle.trip.specs.Fits.{RoundFits, CommitFits, InputFits, ResultFits}
+use Rattle.trip.specs.Fits.{RoundFits, RecordFits, InputFits, ResultFits}
 use Rattle.trip.specs.Trip.{stream-reads, stream-writes, stream-no-end}
 use Rattle.trip.specs.Kinds.{round-kind, result-kind}
 
@@ -27,9 +27,9 @@ pub record RoundTrips : Type 0 where
 pub round-trips : RoundTrips
 round-trips = record {
   input-reads = stream-reads roundOf listed RoundFits round-kind;
-  result-reads = stream-reads resultOf result CommitFits result-kind;
+  result-reads = stream-reads resultOf result RecordFits result-kind;
   input-writes = stream-writes roundOf listed RoundFits round-kind;
-  result-writes = stream-writes resultOf result CommitFits result-kind;
+  result-writes = stream-writes resultOf result RecordFits result-kind;
   input-no-end = λ s b. no-end (stream-no-end roundOf listed RoundFits round-kind s b);
-  result-no-end = λ s b. no-end (stream-no-end resultOf result CommitFits result-kind s b);
+  result-no-end = λ s b. no-end (stream-no-end resultOf result RecordFits result-kind s b);
 }

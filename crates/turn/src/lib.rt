@@ -1,7 +1,7 @@
 // One round of the stream: received, run, and its record written.
 use decoding::Ending;
 use decoding::Record;
-use decoding::Recorded;
+use decoding::RecordGiven;
 use number::Wrote;
 use window::Ran;
 use window::Window;
@@ -34,7 +34,7 @@ fn turn(w: Window, bytes: &[u8], edges: &mut [u8], escapes: &mut [u8]) -> Ran
 }
 
 // Receives a round that was read, up to an offset, and writes its record from an offset on.
-pub fn decode_round(w: Window, bytes: &[u8], next: usize, out: &mut [u8], to: usize) -> Recorded
+pub fn decode_round(w: Window, bytes: &[u8], next: usize, out: &mut [u8], to: usize) -> RecordGiven
     requires { ⌜ inRange (w .shape .height) (w .shape .distance) ≡ true ⌝ }
     requires { ⌜ w .next < 4294967295 ⌝ }
     requires { ⌜ length (now bytes) ≡ detectorsOf (w .shape .height) (w .shape .distance) ⌝ }
@@ -48,19 +48,19 @@ pub fn decode_round(w: Window, bytes: &[u8], next: usize, out: &mut [u8], to: us
     let mut escapes = [0; 210];
     let ran = turn(w, bytes, &mut edges[..m], &mut escapes[..n]);
     if !ran.rest {
-        return Recorded {
+        return RecordGiven {
             answer: Record::Stopped(Ending::Spent),
             window: w,
         };
     }
     match result_writer::write_result(shape, &edges[..m], &escapes[..n], ran.count, out, to) {
-        Wrote::Not(f) => Recorded {
+        Wrote::Not(f) => RecordGiven {
             answer: Record::Stopped(Ending::Refused(f)),
             window: w,
         },
         Wrote::To(behind) => {
             let window = ran.window;
-            Recorded {
+            RecordGiven {
                 answer: Record::Written(next, behind),
                 window,
             }

@@ -1,7 +1,7 @@
 -- `exports::baizeridge_take_result` meets its contract. Assumes nothing.
 use mathlib.Core.Path.{_∙_}
 use Rattle.named.specs.Laws.{result-read}
-use Rattle.exports.specs.Laws.{result-left}
+use Rattle.exports.specs.Laws.{result-out}
 use borrow.Author.Needs.{needs}
 use Rattle.exports.proofs.baizeridge_take_result.Statement.{statement}
 use Rattle.exports.proofs.baizeridge_take_result.Tie as tie
@@ -26,7 +26,7 @@ returns c =
     let a = c .before .before .before .before .before .before .before .before .before .before .before .before .before .before .before .args in
     let t = c .before .before .before .before .before .before .before .take-result .ensures in
     let e = t .0 ∙ result-read (a .height) (a .distance) (c .before .before .before .before .before .before .before .before .before .before .before .shape-by .ensures) (a .src .now) (a .at .now) (a .edges .now) (a .escapes .now) in
-    result-left (a .at .now) (a .place .now) (a .steps .now) e (c .result .ensures) (t .1)
+    result-out (a .at .now) (a .place .now) (a .steps .now) e (c .result .ensures) (t .1)
 
 pub baizeridge-take-result-spec : {M : Type 1} → statement M
 baizeridge-take-result-spec =

@@ -1,7 +1,7 @@
 -- `exports::baizeridge_take_round` meets its contract. Assumes nothing.
 use mathlib.Core.Path.{_∙_}
 use Rattle.named.specs.Laws.{round-read}
-use Rattle.exports.specs.Laws.{round-left}
+use Rattle.exports.specs.Laws.{round-out}
 use borrow.Author.Needs.{needs}
 use Rattle.exports.proofs.baizeridge_take_round.Statement.{statement}
 use Rattle.exports.proofs.baizeridge_take_round.Tie as tie
@@ -23,7 +23,7 @@ returns c =
     let a = c .before .before .before .before .before .before .before .before .before .before .args in
     let t = c .before .before .before .before .take-round .ensures in
     let e = t .0 ∙ round-read (a .height) (a .distance) (c .before .before .before .before .before .before .before .shape-by .ensures) (a .src .now) (a .at .now) (a .defects .now) in
-    round-left (a .at .now) (a .place .now) e (c .round .ensures) (t .1)
+    round-out (a .at .now) (a .place .now) e (c .round .ensures) (t .1)
 
 pub baizeridge-take-round-spec : {M : Type 1} → statement M
 baizeridge-take-round-spec =

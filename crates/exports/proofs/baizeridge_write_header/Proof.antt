@@ -1,7 +1,7 @@
 -- `exports::baizeridge_write_header` meets its contract. Assumes nothing.
 use mathlib.Core.Path.{_∙_}
 use Rattle.named.specs.Laws.{header-written}
-use Rattle.exports.specs.Laws.{buffer-left}
+use Rattle.exports.specs.Laws.{buffer-out}
 use borrow.Author.Needs.{needs}
 use Rattle.exports.proofs.baizeridge_write_header.Statement.{statement}
 use Rattle.exports.proofs.baizeridge_write_header.Tie as tie
@@ -22,7 +22,7 @@ returns : tie.Need-returns
 returns c =
     let a = c .before .before .before .before .before .before .before .before .args in
     let e = c .before .before .before .before .write-header .ensures ∙ header-written (a .height) (a .distance) (c .before .before .before .before .before .before .shape-by .ensures) (a .out .now) (a .at) in
-    buffer-left (a .place .now) e (c .wrote .ensures)
+    buffer-out (a .place .now) e (c .wrote .ensures)
 
 pub baizeridge-write-header-spec : {M : Type 1} → statement M
 baizeridge-write-header-spec =

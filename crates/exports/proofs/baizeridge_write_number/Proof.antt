@@ -1,5 +1,5 @@
 -- `exports::baizeridge_write_number` meets its contract. Assumes nothing.
-use Rattle.exports.specs.Laws.{buffer-left}
+use Rattle.exports.specs.Laws.{buffer-out}
 use borrow.Author.Needs.{needs}
 use Rattle.exports.proofs.baizeridge_write_number.Statement.{statement}
 use Rattle.exports.proofs.baizeridge_write_number.Tie as tie
@@ -14,7 +14,7 @@ same-length : tie.Need-same-length
 same-length c = search needs
 
 returns : tie.Need-returns
-returns c = buffer-left (c .before .before .before .before .before .before .before .args .place .now) (c .before .before .before .before .write-number .ensures) (c .wrote .ensures)
+returns c = buffer-out (c .before .before .before .before .before .before .before .args .place .now) (c .before .before .before .before .write-number .ensures) (c .wrote .ensures)
 
 pub baizeridge-write-number-spec : {M : Type 1} → statement M
 baizeridge-write-number-spec =

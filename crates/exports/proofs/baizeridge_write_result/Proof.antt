@@ -2,7 +2,7 @@
 use mathlib.Core.Path.{_∙_}
 use Rattle.record.specs.Calls.{asResult}
 use Rattle.named.specs.Laws.{result-written}
-use Rattle.exports.specs.Laws.{buffer-left}
+use Rattle.exports.specs.Laws.{buffer-out}
 use borrow.Author.Needs.{needs}
 use Rattle.exports.proofs.baizeridge_write_result.Statement.{statement}
 use Rattle.exports.proofs.baizeridge_write_result.Tie as tie
@@ -23,7 +23,7 @@ returns : tie.Need-returns
 returns c =
     let a = c .before .before .before .before .before .before .before .before .before .before .args in
     let e = c .before .before .before .before .write-result .ensures ∙ result-written (a .height) (a .distance) (c .before .before .before .before .before .before .shape-by .ensures) (asResult (a .edges .now) (a .escapes .now) (a .steps)) (a .out .now) (a .at) in
-    buffer-left (a .place .now) e (c .wrote .ensures)
+    buffer-out (a .place .now) e (c .wrote .ensures)
 
 pub baizeridge-write-result-spec : {M : Type 1} → statement M
 baizeridge-write-result-spec =
