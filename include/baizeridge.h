@@ -25,7 +25,7 @@
 #include <stddef.h>
 #include <stdint.h>
 
-/* Measured: some 545,000 bytes to decode, less than 1,500 for any other call. */
+/* Measured: some 500,000 bytes to decode, less than 1,500 for any other call. */
 #define BAIZERIDGE_DECODE_STACK 1048576
 #define BAIZERIDGE_STACK 32768
 

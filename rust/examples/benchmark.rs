@@ -69,6 +69,7 @@ struct Window {
     nodes: [[u16; 4]; 3_600],
     growth: [u8; 10_800],
     correction: [u8; 10_800],
+    measured: [u8; 210],
 }
 
 fn moving() -> Duration {
@@ -79,6 +80,7 @@ fn moving() -> Duration {
         nodes: [[0; 4]; 3_600],
         growth: [0; 10_800],
         correction: [0; 10_800],
+        measured: [0; 210],
     });
     let mut to = from.clone();
     let run = |_| {

@@ -12,22 +12,39 @@ pub struct Accounted {
     pub window: Window,
     /// By depth: the defects received in a round, and the ends of committed edges there.
     open: VecDeque<Parity>,
+    /// The bytes of the last raw call that was not refused.
+    measured: Vec<u8>,
 }
 
 impl Accounted {
     pub fn new(shape: Shape) -> Accounted {
         let window = Window::open(shape);
         let open = vec![vec![false; window.sheet.nodes()]; window.layers.len()].into();
-        Accounted { window, open }
+        Accounted { window, open, measured: vec![0; shape.detectors()] }
     }
 
-    /// A round call. The round that leaves the window has to be accounted for by what it leaves in the buffers.
     pub fn round(&mut self, bytes: &[u8], edges: &mut [u8], escapes: &mut [u8]) -> Result<(), u8> {
         self.window.round(bytes, edges, escapes)?;
+        self.received(bytes, edges, escapes);
+        Ok(())
+    }
+
+    /// The defects received are by the calls alone, and not by what the window holds.
+    pub fn raw_round(&mut self, bytes: &[u8], edges: &mut [u8], escapes: &mut [u8]) -> Result<(), u8> {
+        self.window.raw_round(bytes, edges, escapes)?;
+        let before = std::mem::replace(&mut self.measured, bytes.to_vec());
+        let defects: Vec<u8> = bytes.iter().zip(before).map(|(new, old)| new ^ old).collect();
+        self.received(&defects, edges, escapes);
+        Ok(())
+    }
+
+    /// A round was received with these defects. The one that leaves the window has to be accounted for by what is in the
+    /// buffers.
+    fn received(&mut self, defects: &[u8], edges: &[u8], escapes: &[u8]) {
         let sheet = self.window.sheet.clone();
         let mut left = self.open.pop_back().expect("a window has sheets");
         self.open.push_front(vec![false; sheet.nodes()]);
-        add(&sheet, &mut self.open[0], bytes);
+        add(&sheet, &mut self.open[0], defects);
         add(&sheet, &mut left, escapes);
         let next = self.open.back_mut().expect("a window has sheets");
         for (span, _) in sheet.spans.iter().zip(edges).filter(|(_, byte)| **byte == 1) {
@@ -36,12 +53,14 @@ impl Accounted {
             far[span.far] ^= true;
         }
         settled(&sheet, &left);
-        Ok(())
     }
 
-    /// No defect is lost; and at rest, every cluster has its root. After any call.
+    /// No defect is lost; at rest, every cluster has its root; and the last measured sheet is that of the calls. After any
+    /// call.
     pub fn check(&self) {
         let sheet = &self.window.sheet;
+        let measured = self.window.measured.iter().map(|&bit| u8::from(bit));
+        assert!(measured.eq(self.measured.iter().copied()), "{:?}: the last measured sheet", sheet.shape);
         let mut open = self.open.clone();
         for (depth, layer) in self.window.layers.iter().enumerate() {
             for (span, _) in sheet.spans.iter().zip(&layer.edges).filter(|(_, edge)| edge.correction) {

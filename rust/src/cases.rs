@@ -1,5 +1,6 @@
 //! The cases that the tests go through.
 
+use crate::decoder::Window;
 use crate::random::Random;
 use crate::streams::{Shape, DISTANCES, HEIGHTS};
 
@@ -46,6 +47,13 @@ pub fn shapes() -> Vec<(u32, u32, Shape)> {
         HEIGHTS.flat_map(|h| DISTANCES.map(move |d| (h, d, Shape::new(h, d).expect("both are in range")))).collect();
     assert_eq!(all.len(), 210);
     all
+}
+
+/// A fresh window, and an edge and an escape buffer that fit it.
+pub fn opened(height: u32, distance: u32) -> (Window, Vec<u8>, Vec<u8>) {
+    let window = Window::fresh(height, distance).expect("a shape in range");
+    let shape = window.sheet.shape;
+    (window, vec![7; shape.edges()], vec![7; shape.detectors()])
 }
 
 /// Some of the refusals that a call tests for, in their order.

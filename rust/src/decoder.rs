@@ -165,6 +165,8 @@ pub struct Window {
     pub stage: Stage,
     pub next: u32,
     pub layers: VecDeque<Layer>,
+    /// The last measured sheet, a bit a detector.
+    pub measured: Vec<bool>,
 }
 
 fn refuse(bad: bool, number: u8) -> Result<(), u8> {
@@ -185,7 +187,7 @@ impl Window {
         let sheet = Arc::new(Sheet::new(shape));
         let next = sheet.sheets() as u32;
         let layers = (0..i64::from(next)).rev().map(|round| sheet.fresh(round)).collect();
-        Window { sheet, stage: Stage::Rest, next, layers }
+        Window { sheet, stage: Stage::Rest, next, layers, measured: vec![false; shape.detectors()] }
     }
 
     /// The round that a depth holds; the ghost sheet's depth is one more than the bottom's.
@@ -222,21 +224,44 @@ impl Window {
         links.next().map(|(_, there, edge)| (there, edge)).expect("pointers go along edges")
     }
 
+    /// A round of defects.
     pub fn round(&mut self, bytes: &[u8], edges: &mut [u8], escapes: &mut [u8]) -> Result<(), u8> {
-        let sheet = self.sheet.clone();
+        let defects = self.test_round(bytes, edges, escapes)?;
+        self.receiving(&defects, edges, escapes);
+        Ok(())
+    }
+
+    /// A round of measurements: the defects are where they differ from the last measured sheet, and then they are the
+    /// sheet.
+    pub fn raw_round(&mut self, bytes: &[u8], edges: &mut [u8], escapes: &mut [u8]) -> Result<(), u8> {
+        let measured = self.test_round(bytes, edges, escapes)?;
+        let defects: Vec<bool> = measured.iter().zip(&self.measured).map(|(new, old)| new != old).collect();
+        self.receiving(&defects, edges, escapes);
+        self.measured = measured;
+        Ok(())
+    }
+
+    /// What both round calls refuse; the bytes as bits.
+    fn test_round(&self, bytes: &[u8], edges: &[u8], escapes: &[u8]) -> Result<Vec<bool>, u8> {
+        let shape = self.sheet.shape;
         refuse(self.stage != Stage::Rest, 22)?;
         refuse(self.next == u32::MAX, 23)?;
-        refuse(bytes.len() != sheet.shape.detectors(), 3)?;
-        refuse(edges.len() != sheet.shape.edges(), 5)?;
-        refuse(escapes.len() != sheet.shape.detectors(), 6)?;
+        refuse(bytes.len() != shape.detectors(), 3)?;
+        refuse(edges.len() != shape.edges(), 5)?;
+        refuse(escapes.len() != shape.detectors(), 6)?;
         refuse(bytes.iter().any(|&byte| byte > 1), 4)?;
+        Ok(bytes.iter().map(|&byte| byte == 1).collect())
+    }
 
+    /// Receives a round by its defects, and hands out the bottom layer.
+    fn receiving(&mut self, defects: &[bool], edges: &mut [u8], escapes: &mut [u8]) {
+        let sheet = self.sheet.clone();
         let gone = self.layers.pop_back().expect("a window has sheets");
         edges.iter_mut().zip(&gone.edges).for_each(|(byte, edge)| *byte = edge.correction.into());
         escapes.iter_mut().zip(sheet.detectors()).for_each(|(byte, node)| *byte = gone.nodes[node].defect.into());
 
         let mut top = sheet.fresh(self.next.into());
-        bytes.iter().zip(sheet.detectors()).for_each(|(&byte, node)| top.nodes[node].defect = byte == 1);
+        defects.iter().zip(sheet.detectors()).for_each(|(&defect, node)| top.nodes[node].defect = defect);
         self.layers.push_front(top);
         self.next += 1;
         let ghost = self.round_at(sheet.sheets());
@@ -247,7 +272,6 @@ impl Window {
             }
         }
         self.stage = Stage::ToGrow;
-        Ok(())
     }
 
     pub fn grow(&mut self) -> Result<(), u8> {

@@ -16,6 +16,8 @@ pub struct Entry {
 const UNUSED: Entry = Entry { active: false, defect: false, unrooted: false, pointer: 0, mark: Some(0) };
 const NODES: usize = 3_600;
 const SLOTS: usize = 10_800;
+/// Bits of the last measured sheet.
+pub const DETECTORS: usize = 210;
 const WAYS: [Way; 6] = [Way::North, Way::West, Way::East, Way::South, Way::Down, Way::Up];
 
 #[derive(Debug, Clone, PartialEq, Eq)]
@@ -27,6 +29,7 @@ pub struct Image {
     pub nodes: Vec<Entry>,
     pub growth: Vec<u8>,
     pub correction: Vec<bool>,
+    pub measured: Vec<bool>,
 }
 
 /// The entry of a node.
@@ -50,6 +53,7 @@ impl Image {
             nodes: vec![UNUSED; NODES],
             growth: vec![0; SLOTS],
             correction: vec![false; SLOTS],
+            measured: vec![false; DETECTORS],
         }
     }
 
@@ -60,6 +64,7 @@ impl Image {
         image.distance = sheet.shape.distance as u8;
         image.stage = window.stage;
         image.next = window.next;
+        image.measured[..window.measured.len()].copy_from_slice(&window.measured);
         for (depth, layer) in window.layers.iter().enumerate() {
             for (place, node) in layer.nodes.iter().enumerate() {
                 image.nodes[entry(sheet, depth, place)] = Entry {
@@ -133,19 +138,20 @@ impl Image {
             layers.push(layer);
         }
         window.layers = layers.into();
+        window.measured = left.measured.drain(..sheet.shape.detectors()).collect();
 
         let zero = left.nodes.iter().all(|&node| node == UNUSED)
             && left.growth.iter().all(|&halves| halves == 0)
-            && left.correction.iter().all(|&bit| !bit);
+            && left.correction.iter().chain(&left.measured).all(|&bit| !bit);
         zero.then_some(window)
     }
 
-    /// Makes a call on the window; what is refused leaves it as it was.
+    /// Makes a call on the window, and takes what it leaves, refused or not.
     fn call<T>(&mut self, call: impl FnOnce(&mut Window) -> Result<T, u8>) -> Result<T, u8> {
         let mut window = self.read().ok_or(21)?;
-        let answer = call(&mut window)?;
+        let answer = call(&mut window);
         *self = Image::of(&window);
-        Ok(answer)
+        answer
     }
 
     pub fn fresh(height: u32, distance: u32) -> Result<Image, u8> {
@@ -154,6 +160,10 @@ impl Image {
 
     pub fn round(&mut self, bytes: &[u8], edges: &mut [u8], escapes: &mut [u8]) -> Result<(), u8> {
         self.call(|window| window.round(bytes, edges, escapes))
+    }
+
+    pub fn raw_round(&mut self, bytes: &[u8], edges: &mut [u8], escapes: &mut [u8]) -> Result<(), u8> {
+        self.call(|window| window.raw_round(bytes, edges, escapes))
     }
 
     pub fn grow(&mut self) -> Result<(), u8> {

@@ -1,12 +1,14 @@
 //! A second opinion on the proved code. `streams` says what document 01 asks for, `proved` calls the archive, and
 //! `compare` holds every answer and every byte of the one against the other. `decoder` is a second decoder, which
 //! `decoding` takes through a whole stream, and `account` holds it to the law; `replay` plays the stored script of
-//! `crates/replay` on it, which `script` writes, by the windows that `image` edits. `dense` is a plain decoder for the
-//! benchmark. `cases`, `random`, `noise` and `tally` make inputs and count them; `repository` finds files.
+//! `crates/replay` on it. `script` writes that script, and random lists of calls; `image` has the windows that they
+//! edit. `dense` is a plain decoder for the benchmark. `cases`, `random` and `noise` make inputs, and `tally` and
+//! `covered` count what came of them; `repository` finds files.
 
 pub mod account;
 pub mod cases;
 pub mod compare;
+pub mod covered;
 pub mod decoder;
 pub mod decoding;
 pub mod dense;

@@ -34,6 +34,15 @@ impl Random {
         from[self.below(from.len())]
     }
 
+    /// A length, now and then one off.
+    pub fn near(&mut self, right: usize) -> usize {
+        if self.one_in(15) {
+            self.pick(&[right - 1, right + 1])
+        } else {
+            right
+        }
+    }
+
     /// A number of any length in bits.
     pub fn number(&mut self) -> u32 {
         (self.draw() >> 32) as u32 >> self.below(32)

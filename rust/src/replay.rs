@@ -4,9 +4,14 @@ use crate::decoder::Stage;
 use crate::decoding::Ran;
 use crate::image::{Entry, Image};
 
+/// The longest script, in bytes.
+pub const LONGEST: usize = 65_536;
+
 /// A player with its window.
 pub struct Player {
     pub image: Image,
+    /// Whether its lines end with the digest and the last measured sheet. The digest takes most of the time.
+    full: bool,
 }
 
 fn digits(buffer: &[u8]) -> String {
@@ -28,9 +33,11 @@ fn stage_code(stage: Stage) -> u64 {
     }
 }
 
-/// A polynomial modulo a prime below 2^55, over every entry of the window.
+/// Below 2^55.
+const PRIME: u64 = (1 << 55) - 55;
+
+/// A polynomial modulo a prime, over every entry of the window but for the last measured sheet.
 pub fn digest(image: &Image) -> u64 {
-    const PRIME: u64 = (1 << 55) - 55;
     let head = [image.height.into(), image.distance.into(), stage_code(image.stage), image.next.into()];
     let nodes = image.nodes.iter().flat_map(|node| {
         let mark = node.mark.map_or(65_536, u64::from);
@@ -41,15 +48,23 @@ pub fn digest(image: &Image) -> u64 {
     head.into_iter().chain(nodes).chain(growth).chain(correction).fold(0, |sum, x| (sum * 259 + x + 1) % PRIME)
 }
 
+/// The last measured sheet: 0 where it is empty.
+fn folded(measured: &[bool]) -> u64 {
+    measured.iter().fold(0, |sum, &bit| (2 * sum + u64::from(bit)) % PRIME)
+}
+
 impl Default for Player {
     fn default() -> Player {
-        Player { image: Image::fresh(1, 2).expect("1 by 2 is a shape") }
+        Player { image: Image::fresh(1, 2).expect("1 by 2 is a shape"), full: false }
     }
 }
 
 impl Player {
     fn line(&self, text: String) -> String {
-        format!("{text} {:014x}\n", digest(&self.image))
+        if !self.full {
+            return text + "\n";
+        }
+        format!("{text} {:014x} {}\n", digest(&self.image), folded(&self.image.measured))
     }
 
     /// What a line of the script has written.
@@ -63,11 +78,12 @@ impl Player {
                 self.image = opened.unwrap_or_else(|_| Image::nothing());
                 self.line(format!("open {}", told(answer)))
             }
-            "round" => {
+            name @ ("round" | "raw") => {
                 let (mut edges, mut escapes) = (vec![7; number(1) as usize], vec![7; number(2) as usize]);
                 let bytes: Vec<u8> = words.get(3).unwrap_or(&"").bytes().map(|digit| digit - b'0').collect();
-                let answer = self.image.round(&bytes, &mut edges, &mut escapes);
-                self.line(format!("round {} {} {}", told(answer), digits(&edges), digits(&escapes)))
+                let call = if name == "raw" { Image::raw_round } else { Image::round };
+                let answer = call(&mut self.image, &bytes, &mut edges, &mut escapes);
+                self.line(format!("{name} {} {} {}", told(answer), digits(&edges), digits(&escapes)))
             }
             "grow" => {
                 let answer = self.image.grow();
@@ -114,6 +130,11 @@ impl Player {
                     }
                     "halves" => self.image.growth[i] = number(2) as u8,
                     "flip" => self.image.correction[i] = number(2) == 1,
+                    "last" => {
+                        if let Some(bit) = self.image.measured.get_mut(i) {
+                            *bit = number(2) == 1;
+                        }
+                    }
                     _ => panic!("no command: {line}"),
                 }
                 self.line("edit".into())
@@ -122,8 +143,14 @@ impl Player {
     }
 }
 
+/// A written line but for the name of a round call and the last measured sheet.
+pub fn bare(line: &str) -> &str {
+    let line = line.strip_prefix("round").or_else(|| line.strip_prefix("raw")).unwrap_or(line);
+    line.rsplit_once(' ').map_or(line, |(rest, _)| rest)
+}
+
 /// What a whole script has written.
 pub fn replay(script: &str) -> String {
-    let mut player = Player::default();
+    let mut player = Player { full: true, ..Player::default() };
     script.lines().map(|line| player.play(line)).collect()
 }

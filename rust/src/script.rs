@@ -1,18 +1,26 @@
 //! The script that is stored with `crates/replay`.
 
+mod raw;
 mod runs;
+
+pub use raw::{plain_list, raw_list};
 
 use crate::decoder::{Stage, Window};
 use crate::image::{self, Entry, Image};
 use crate::random::Random;
-use crate::replay::Player;
+use crate::replay::{Player, LONGEST};
 use crate::streams::Shape;
+
+/// The names of the round calls.
+const ROUNDS: [&str; 2] = ["round", "raw"];
 
 /// A script, played as it is written.
 #[derive(Default)]
 struct Script {
     player: Player,
     text: String,
+    /// Whether the last edit was tried with a raw round.
+    tried_raw: bool,
 }
 
 fn entry_line(i: usize, node: Entry) -> String {
@@ -31,14 +39,19 @@ pub fn script() -> String {
     script.printed();
     script.shapes();
     script.sessions();
-    script.lengths();
-    script.last_round();
-    script.stages();
+    for call in ROUNDS {
+        script.lengths(call);
+        script.last_round(call);
+        script.stages(call);
+    }
+    script.in_order();
     script.ill_formed();
     script.edited();
     script.noisy();
+    script.mixed();
     script.runs();
-    assert!(script.text.len() <= 65_536);
+    script.lists();
+    assert!(script.text.len() <= LONGEST);
     script.text
 }
 
@@ -58,17 +71,21 @@ impl Script {
         Shape::new(self.image().height.into(), self.image().distance.into()).expect("a shape in range")
     }
 
-    /// A round with buffers of the right lengths.
-    fn round(&mut self, bytes: &str) -> String {
+    /// A round call with buffers of the right lengths.
+    fn receive(&mut self, call: &str, bytes: &str) -> String {
         let shape = self.shape();
-        self.add(format!("round {} {} {bytes}", shape.edges(), shape.detectors()))
+        self.add(format!("{call} {} {} {bytes}", shape.edges(), shape.detectors()))
     }
 
-    /// A round of random bytes, so many in a hundred set.
-    fn noise(&mut self, random: &mut Random, percent: usize) {
+    fn round(&mut self, bytes: &str) -> String {
+        self.receive("round", bytes)
+    }
+
+    /// A round call with random bytes, so many in a hundred set.
+    fn noise(&mut self, call: &str, random: &mut Random, percent: usize) {
         let bytes: String =
             (0..self.shape().detectors()).map(|_| if random.below(100) < percent { '1' } else { '0' }).collect();
-        self.round(&bytes);
+        self.receive(call, &bytes);
     }
 
     /// The window to rest.
@@ -90,7 +107,7 @@ impl Script {
         }
         self.add("# what a refused shape gives is no window");
         self.add("open 0 3");
-        for call in ["round 0 0", "grow", "merging 1", "run 1"] {
+        for call in ["round 0 0", "raw 0 0", "grow", "merging 1", "run 1"] {
             self.add(call);
         }
     }
@@ -116,10 +133,10 @@ impl Script {
         }
     }
 
-    fn lengths(&mut self) {
+    fn lengths(&mut self, call: &str) {
         self.add("# 1 by 3: slices of 0 to 4 bytes, buffers too short and too long, bytes other than 0 and 1, and several of these");
         self.add("open 1 3");
-        self.round("11");
+        self.receive(call, "11");
         self.settle();
         let faulty = [
             "5 2, 5 2 1, 5 2 101, 5 2 1010",
@@ -128,58 +145,67 @@ impl Script {
             "4 1 2, 4 1 22, 5 1 22, 4 2 22, 5 3 1, 6 2 1, 0 0, 1024 256 222222",
         ];
         for faulty in faulty.iter().flat_map(|of_a_kind| of_a_kind.split(", ")) {
-            self.add(format!("round {faulty}"));
+            self.add(format!("{call} {faulty}"));
         }
-        self.add("round 5 2 01");
+        self.receive(call, "01");
         self.add("# in a wrong stage 22 precedes them");
-        self.add("round 4 1 2");
+        self.add(format!("{call} 4 1 2"));
         self.add("grow");
-        self.add("round 4 1 2");
+        self.add(format!("{call} 4 1 2"));
         self.settle();
     }
 
-    fn last_round(&mut self) {
+    fn last_round(&mut self, call: &str) {
         self.add("# the last round number");
         self.add("open 1 3");
         self.add("next 4294967294");
-        self.round("10");
-        for fault in ["round 5 2 10", "grow", "merging 999", "round 5 2 10", "round 4 1 2"] {
-            self.add(fault);
-        }
+        self.receive(call, "10");
+        self.receive(call, "10");
+        self.settle();
+        self.receive(call, "10");
+        self.add(format!("{call} 4 1 2"));
         self.add("# the last but one, twice");
         self.add("next 4294967293");
         for _ in 0..3 {
-            self.round("01");
+            self.receive(call, "01");
             self.settle();
         }
     }
 
-    fn stages(&mut self) {
+    fn stages(&mut self, call: &str) {
         self.add("# every call in every stage");
         self.add("open 2 2");
         for _ in 0..3 {
             self.add("merging 1");
             self.add("grow");
-            self.round("10");
+            self.receive(call, "10");
             self.add("merging 1");
-            self.round("01");
+            self.receive(call, "01");
             self.add("grow");
             self.add("grow");
-            self.round("11");
+            self.receive(call, "11");
             self.settle();
         }
     }
 
-    /// Makes an edit, tries every call, and takes the edit back. Each call is refused 21, also where the stage is wrong.
+    /// Tries an edit with one of the round calls, which take turns.
     fn try_edit(&mut self, edit: &str, back: &str) {
+        self.tried_raw = !self.tried_raw;
+        self.try_rounds(edit, back, &[ROUNDS[usize::from(self.tried_raw)]]);
+    }
+
+    /// Makes an edit, tries these round calls and every other call, and takes the edit back. Each call is refused 21, also
+    /// where the stage is wrong.
+    fn try_rounds(&mut self, edit: &str, back: &str, rounds: &[&str]) {
         let before = self.image().clone();
         self.add(edit);
         let edited = self.image().clone();
         let shape =
             Shape::new(edited.height.into(), edited.distance.into()).or_else(|_| Shape::new(1, 2)).expect("a shape");
-        let round = format!("round {} {} {}", shape.edges(), shape.detectors(), "0".repeat(shape.detectors()));
-        for call in [round.as_str(), "grow", "merging 1", "run 1"] {
-            assert!(self.add(call).contains(" refused 21 "), "{edit}, {call}");
+        let zeros = "0".repeat(shape.detectors());
+        let rounds = rounds.iter().map(|round| format!("{round} {} {} {zeros}", shape.edges(), shape.detectors()));
+        for call in rounds.chain(["grow", "merging 1", "run 1"].map(String::from)) {
+            assert!(self.add(&call).contains(" refused 21"), "{edit}, {call}");
             assert!(*self.image() == edited);
         }
         self.add(back);
@@ -202,19 +228,24 @@ impl Script {
         self.try_edit(&format!("flip {i} 1"), &format!("flip {i} 0"));
     }
 
+    fn try_last(&mut self, i: usize) {
+        self.try_rounds(&format!("last {i} 1"), &format!("last {i} 0"), &ROUNDS);
+    }
+
     fn ill_formed(&mut self) {
         let mut random = Random::new(0x21, 0);
         self.add("# windows that are not well-formed, 3 by 3 in each stage: every call is refused 21 and leaves the window as it is");
         self.add("open 3 3");
-        for _ in 0..4 {
-            self.noise(&mut random, 30);
+        for call in ["round", "raw", "round", "raw"] {
+            self.noise(call, &mut random, 30);
             self.settle();
         }
+        assert!(self.image().measured.contains(&true));
         self.add("# at rest; the highest mark is fine");
         self.each_fault();
         let old = self.image().nodes[13];
         self.add(entry_line(13, Entry { mark: Some(47), ..old }));
-        self.noise(&mut random, 30);
+        self.noise("round", &mut random, 30);
         self.add("# to grow: a bottom detector's pointer may be D");
         self.each_fault();
         let old = self.image().nodes[25];
@@ -236,11 +267,19 @@ impl Script {
         self.try_node(3_599, |node| node.defect = true);
         self.try_node(3_598, |node| node.pointer = 5);
         self.try_node(3_598, |node| node.mark = Some(3_840));
+        self.add("# nor has it an unused entry of the last measured sheet; 1 by 2 has one that is used");
+        for line in ["last 209 1", "last 210 1", "grow", "open 1 2", "last 0 1", "grow"] {
+            self.add(line);
+        }
+        self.try_last(1);
+        self.receive("raw", "1");
     }
 
     // 3 by 3: a sheet has 12 nodes, 3 sheets, 48 numbers; the slots of 36 nodes are 108.
     fn each_fault(&mut self) {
         let (next, stage) = (self.image().next, self.image().stage);
+        // What one round call is tried with in one stage, the other is tried with in another.
+        self.tried_raw = stage == Stage::ToGrow;
         self.add("# the shape out of range, or another than the entries are for");
         for shape in ["0 3", "16 3", "3 0", "3 1", "3 16", "255 255", "2 3", "3 2"] {
             self.try_edit(&format!("dims {shape}"), "dims 3 3");
@@ -289,6 +328,8 @@ impl Script {
             self.try_halves(slot, 1);
             self.try_flip(slot);
         }
+        self.add("# the last measured sheet behind the detectors");
+        [6, 209].into_iter().for_each(|i| self.try_last(i));
     }
 
     /// Well-formed windows that no session reaches, and a few others.
@@ -298,14 +339,19 @@ impl Script {
             [(1, 2), (1, 3), (2, 2), (3, 3), (2, 4), (4, 3)].into_iter().cycle().take(18).enumerate()
         {
             let mut random = Random::new(0xed17, case as u64);
+            let call = ROUNDS[case / 6 % 2];
             self.add(format!("open {height} {distance}"));
-            self.noise(&mut random, 40);
+            self.noise(call, &mut random, 40);
             self.settle();
             for turn in 0..3 {
                 if turn == 0 {
                     self.add(stage_line(random.pick(&[Stage::Rest, Stage::ToGrow, Stage::Merging, Stage::Merging])));
                 }
                 (0..8).for_each(|_| self.random_edit(&mut random));
+                if call == "raw" {
+                    let i = random.below(self.shape().detectors());
+                    self.add(format!("last {i} {}", random.below(2)));
+                }
                 if turn == case % 3 {
                     self.try_run(&mut random);
                 }
@@ -313,7 +359,7 @@ impl Script {
                     self.add("grow");
                 }
                 self.add("merging 40");
-                self.noise(&mut random, 40);
+                self.noise(call, &mut random, 40);
             }
         }
     }
@@ -359,21 +405,16 @@ impl Script {
         let cases = [
             (1, 2, 50, 12),
             (1, 3, 10, 12),
-            (1, 3, 40, 12),
-            (2, 2, 30, 12),
             (3, 3, 5, 12),
             (3, 3, 20, 12),
-            (3, 3, 50, 12),
             (1, 15, 10, 12),
             (15, 2, 10, 12),
             (4, 7, 3, 12),
-            (5, 5, 10, 12),
             (7, 6, 25, 12),
             (9, 9, 1, 12),
             (11, 10, 5, 12),
             (15, 14, 2, 8),
             (15, 15, 1, 12),
-            (15, 15, 10, 6),
             (15, 15, 50, 6),
         ];
         for (case, (height, distance, percent, rounds)) in cases.into_iter().enumerate() {
@@ -381,7 +422,7 @@ impl Script {
             self.add(format!("# {height} by {distance}, noise {percent} in 100"));
             self.add(format!("open {height} {distance}"));
             for _ in 0..rounds {
-                self.noise(&mut random, percent);
+                self.noise("round", &mut random, percent);
                 self.settle();
             }
         }

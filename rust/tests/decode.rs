@@ -5,38 +5,22 @@
 use baizeridge_tests::account::Accounted;
 use baizeridge_tests::cases::{each_case, shapes, CHANCES};
 use baizeridge_tests::compare;
+use baizeridge_tests::covered::Covered;
 use baizeridge_tests::decoder;
 use baizeridge_tests::decoding::{self, Decoded, DECODED};
 use baizeridge_tests::noise::{stream, Noise};
 use baizeridge_tests::random::Random;
 use baizeridge_tests::streams::{number_bytes, read_number, Done, Shape};
 use baizeridge_tests::tally::Tally;
-use std::collections::{BTreeMap, BTreeSet};
+use std::collections::BTreeSet;
 
-/// By shape: received rounds that left the window, and committed edges of their layers.
-#[derive(Debug, Default)]
-struct Covered(BTreeMap<(usize, usize), [usize; 2]>);
-
-impl Covered {
-    fn note(&mut self, shape: Shape, decoded: &Decoded) {
-        let [left, committed] = self.0.entry((shape.height, shape.distance)).or_default();
-        // The first s records commit the layers of the rounds before the first.
-        for &at in &decoded.ends[shape.sheets()..decoded.rounds()] {
-            let Ok(Done(edges, _)) = read_number(&decoded.result, at) else { panic!("a record starts with its edges") };
-            *left += 1;
-            *committed += edges as usize;
-        }
-    }
-
-    /// The shapes of which a received round left the window, and those of which edges were committed too.
-    fn shapes(&self) -> [usize; 2] {
-        [0, 1].map(|part| self.0.values().filter(|counts| counts[part] > 0).count())
-    }
-
-    /// All rounds that left, and all edges.
-    fn sums(&self) -> [usize; 2] {
-        [0, 1].map(|part| self.0.values().map(|counts| counts[part]).sum())
-    }
+/// All rounds of a stream.
+fn note(covered: &mut Covered, shape: Shape, decoded: &Decoded) {
+    let edges = decoded.ends[..decoded.rounds()].iter().map(|&at| match read_number(&decoded.result, at) {
+        Ok(Done(edges, _)) => edges as usize,
+        Err(_) => panic!("a record starts with its edges"),
+    });
+    covered.note(shape, &edges.collect::<Vec<_>>(), |_| true);
 }
 
 fn noise(chance: usize, random: &mut Random) -> Noise {
@@ -55,7 +39,7 @@ fn decode_random(shape: Shape, rounds: usize, chance: usize, random: &mut Random
     let input = stream(shape, rounds, noise(chance, random), random);
     let decoded = decoded(&input, random.below(9));
     assert_eq!((decoded.status, decoded.rounds()), (DECODED, rounds));
-    covered.note(shape, &decoded);
+    note(covered, shape, &decoded);
 }
 
 /// Streams of more than 2s rounds at each noise level: several of a small shape, one of a larger one, and of those with

@@ -1,23 +1,18 @@
 //! The second decoder on what document 01 prints, and the law after every call.
 
 use baizeridge_tests::account::Accounted;
-use baizeridge_tests::cases::CHANCES;
+use baizeridge_tests::cases::{self, each_case, opened, CHANCES};
+use baizeridge_tests::covered::Covered;
 use baizeridge_tests::decoder::{self, Sheet, Stage, Window};
 use baizeridge_tests::decoding::{Ran, DECODED};
 use baizeridge_tests::random::Random;
 use baizeridge_tests::streams::Shape;
+use baizeridge_tests::tally::{Tally, DONE};
 
 /// Status and result.
 fn decode(input: &[u8]) -> (u8, Vec<u8>) {
     let decoded = decoder::decode(input);
     (decoded.status, decoded.result)
-}
-
-/// A window and buffers that fit it.
-fn opened(height: u32, distance: u32) -> (Window, Vec<u8>, Vec<u8>) {
-    let window = Window::fresh(height, distance).expect("a shape in range");
-    let shape = window.sheet.shape;
-    (window, vec![7; shape.edges()], vec![7; shape.detectors()])
 }
 
 #[test]
@@ -122,27 +117,119 @@ fn buffers_that_are_too_small() {
     assert_eq!(decoded.within(15), (DECODED, &decoded.result[..]));
 }
 
-/// The law after every call, refused ones among them, on every shape; a large one has few rounds. `tests/decode.rs` has
-/// it after every round of its streams, which go through the whole window.
+/// A list of calls on a window with its account.
+struct List {
+    accounted: Accounted,
+    /// The chance of a set byte; without one, each round is empty, sparse, dense or full.
+    chance: Option<usize>,
+    /// Of each round received: whether it was raw, and the edges that its call committed.
+    raw: Vec<bool>,
+    edges: Vec<usize>,
+}
+
+/// The answers to plain and to raw rounds, and to the other calls.
+#[derive(Default)]
+struct Answers {
+    rounds: [Tally; 2],
+    others: Tally,
+}
+
+impl List {
+    /// A call that is due, mostly; with single steps none is a run.
+    fn call(&mut self, single: bool, random: &mut Random, answers: &mut Answers) {
+        let before = self.accounted.window.clone();
+        let due = before.stage;
+        let stage = random.pick(&[due, due, due, due, Stage::Rest, Stage::ToGrow, Stage::Merging]);
+        let kind = if single { 2 } else { random.below(3) };
+        let few = random.below(6) as u32;
+        let window = &mut self.accounted.window;
+        let (tally, answer) = match (stage, kind) {
+            (Stage::Rest, _) => {
+                let raw = random.one_in(2);
+                (&mut answers.rounds[usize::from(raw)], self.round(raw, random))
+            }
+            (_, 0) => (&mut answers.others, run(window, few)),
+            (_, 1) => (&mut answers.others, run(window, 1_000)),
+            (Stage::ToGrow, _) => (&mut answers.others, window.grow()),
+            (Stage::Merging, _) => (&mut answers.others, merging(window)),
+        };
+        tally.status(answer.err().unwrap_or(DONE));
+        self.accounted.check();
+        assert!(answer.is_ok() || same(&before, &self.accounted.window), "{:?}: refused", before.sheet.shape);
+    }
+
+    /// A round whose lengths, bytes and number may be wrong.
+    fn round(&mut self, raw: bool, random: &mut Random) -> Result<(), u8> {
+        let shape = self.accounted.window.sheet.shape;
+        let (mut edges, mut escapes) = (vec![7; random.near(shape.edges())], vec![7; random.near(shape.detectors())]);
+        let length = random.near(shape.detectors());
+        let mut bytes = match self.chance {
+            Some(chance) => (0..length).map(|_| random.hit(chance).into()).collect(),
+            None => random.bits(length),
+        };
+        bytes.iter_mut().take(random.one_in(20).into()).for_each(|first| *first = 2);
+        let (next, last) = (self.accounted.window.next, random.one_in(20));
+        if last {
+            self.accounted.window.next = u32::MAX;
+        }
+        let call = if raw { Accounted::raw_round } else { Accounted::round };
+        let answer = call(&mut self.accounted, &bytes, &mut edges, &mut escapes);
+        if last {
+            self.accounted.window.next = next;
+        }
+        if answer.is_ok() {
+            self.raw.push(raw);
+            self.edges.push(edges.iter().filter(|&&byte| byte == 1).count());
+        } else {
+            assert!([edges, escapes].concat().iter().all(|&byte| byte == 7));
+        }
+        answer
+    }
+}
+
+/// A run, whose answer has to say whether the window is at rest.
+fn run(window: &mut Window, budget: u32) -> Result<(), u8> {
+    let rest = matches!(window.run(budget)?, Ran::Rest(_));
+    assert_eq!(rest, window.stage == Stage::Rest);
+    Ok(())
+}
+
+/// A merging step, likewise.
+fn merging(window: &mut Window) -> Result<(), u8> {
+    let busy = window.merging()?;
+    assert_eq!(!busy, window.stage == Stage::Rest);
+    Ok(())
+}
+
+fn same(before: &Window, after: &Window) -> bool {
+    (before.stage, before.next, &before.layers, &before.measured)
+        == (after.stage, after.next, &after.layers, &after.measured)
+}
+
+/// The law after every call of a list on every shape: with rounds of both kinds, more than 2s of them received, and
+/// refused calls. Every second round, fewer of a large shape, comes to rest by single steps.
 #[test]
 fn every_defect_is_accounted_for() {
-    for (case, (_, _, shape)) in baizeridge_tests::cases::shapes().into_iter().enumerate() {
-        let mut random = Random::new(0xde0d, case as u64);
-        let mut accounted = Accounted::new(shape);
-        let (mut edges, mut escapes) = (vec![7; shape.edges()], vec![7; shape.detectors()]);
-        let chance = random.pick(&CHANCES);
-        for _ in 0..3 + 400 / (shape.height * shape.distance) {
-            let bytes: Vec<u8> = (0..shape.detectors()).map(|_| random.hit(chance).into()).collect();
-            accounted.round(&bytes, &mut edges, &mut escapes).expect("a round");
-            accounted.check();
-            assert_eq!(accounted.round(&bytes, &mut edges, &mut escapes), Err(22));
-            accounted.window.grow().expect("a growth");
-            accounted.check();
-            while accounted.window.merging().expect("a step") {
-                accounted.check();
-            }
-            accounted.check();
-            assert_eq!((accounted.window.stage, accounted.window.grow()), (Stage::Rest, Err(22)));
+    let shapes = cases::shapes();
+    let (mut answers, mut plain, mut raw) = (Answers::default(), Covered::default(), Covered::default());
+    each_case(0xde0d, shapes.len(), |case, random| {
+        let (_, _, shape) = shapes[case];
+        let size = shape.height * shape.distance;
+        let chance = Some(random.pick(&CHANCES)).filter(|_| random.one_in(2));
+        let mut list = List { accounted: Accounted::new(shape), chance, raw: vec![], edges: vec![] };
+        while list.raw.len() <= 2 * shape.sheets() + 800 / size {
+            let single = list.raw.len().is_multiple_of(2 + size / 40);
+            list.call(single, random, &mut answers);
         }
+        plain.note(shape, &list.edges, |round| !list.raw[round]);
+        raw.note(shape, &list.edges, |round| list.raw[round]);
+    });
+    for covered in [plain, raw] {
+        let ([left, committing], [_, large]) = (covered.shapes(), covered.at_least(9).shapes());
+        assert!(left == 210 && committing >= 195 && large >= 100, "{left} shapes, {committing}, {large} of them large");
     }
+    for rounds in &answers.rounds {
+        rounds.expect(20 * shapes.len(), &[DONE, 3, 4, 5, 6, 22, 23]);
+    }
+    answers.others.expect(50 * shapes.len(), &[DONE, 22]);
 }

@@ -7,8 +7,6 @@ use baizeridge_tests::decoder;
 use baizeridge_tests::decoding::DECODED;
 use baizeridge_tests::repository;
 use baizeridge_tests::streams::{Done, Shape, Stop};
-use std::io::Write;
-use std::process::{Command, Stdio};
 
 const DOCUMENT: &str = include_str!("../../docs/FORMATS.md");
 
@@ -131,20 +129,6 @@ fn whole(Done((h, d, rounds), _): Done<(u32, u32, usize)>) -> String {
     format!("{h} by {d}, records {rounds}")
 }
 
-/// What the program writes to standard output, with nothing on standard error.
-fn program(input: &[u8]) -> Vec<u8> {
-    let mut child = Command::new(repository::program())
-        .stdin(Stdio::piped())
-        .stdout(Stdio::piped())
-        .stderr(Stdio::piped())
-        .spawn()
-        .expect("the program starts");
-    child.stdin.take().expect("standard input is piped").write_all(input).expect("the input can be written");
-    let output = child.wait_with_output().expect("the program ends");
-    assert!(output.status.success() && output.stderr.is_empty());
-    output.stdout
-}
-
 /// What the readers make of a block's bytes.
 fn read(block: &Block) -> Result<Vec<Line>, Stop> {
     let each = |say: fn(&[u8]) -> Result<String, Stop>| {
@@ -175,7 +159,7 @@ fn every_input_is_decoded_to_the_result_behind_it() {
         let decoded = decoder::decode(&input);
         assert_eq!((decoded.status, &decoded.result), (DECODED, &result));
         assert_eq!(compare::decode(&input, &decoded, result.len()), DECODED);
-        assert_eq!(program(&input), result);
+        assert_eq!(repository::run("decode", &input), result);
     }
     let (list, result) = (bytes("list 411").next().expect("a list"), bytes("result").last().expect("a result"));
     assert!(result.windows(list.len()).any(|part| part == list), "the list is one of the last result");

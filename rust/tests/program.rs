@@ -28,7 +28,7 @@ const SIGPIPE: i32 = 13;
 const SIGXFSZ: i32 = 25;
 
 fn program() -> Command {
-    Command::new(repository::program())
+    Command::new(repository::program("decode"))
 }
 
 /// What the program wrote; it ended with status 0.

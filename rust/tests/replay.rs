@@ -6,6 +6,10 @@ use baizeridge_tests::{replay, script};
 const STDIN: &str = include_str!("../../crates/replay/stdin");
 const STDOUT: &str = include_str!("../../crates/replay/stdout");
 
+/// What a round call answers.
+const ROUND: [&str; 8] =
+    ["done", "refused 21", "refused 22", "refused 23", "refused 3", "refused 4", "refused 5", "refused 6"];
+
 #[test]
 fn the_stored_script_is_the_one_written_here() {
     assert!(STDIN == script::script(), "crates/replay/stdin is not the script of src/script.rs");
@@ -25,10 +29,8 @@ fn the_second_decoder_answers_what_is_stored() {
 fn every_answer_occurs() {
     let answers = [
         ("open", vec!["done", "refused 1", "refused 2"]),
-        (
-            "round",
-            vec!["done", "refused 21", "refused 22", "refused 23", "refused 3", "refused 4", "refused 5", "refused 6"],
-        ),
+        ("round", ROUND.to_vec()),
+        ("raw", ROUND.to_vec()),
         ("grow", vec!["done", "refused 21", "refused 22"]),
         ("merging", vec!["busy", "rest", "refused 21", "refused 22"]),
         ("run", vec!["rest 1", "rest 4", "spent 0", "spent 1", "spent 3", "refused 21", "refused 22"]),
@@ -46,7 +48,7 @@ fn every_answer_occurs() {
 fn the_document_s_lines_are_played() {
     let (part, _) = STDOUT.split_once("# the end\n").expect("the first part has an end");
     let answers: Vec<&str> =
-        part.lines().filter(|line| !line.starts_with('#')).filter_map(|line| Some(line.rsplit_once(' ')?.0)).collect();
+        part.lines().filter(|line| !line.starts_with('#')).filter_map(|line| line.rsplitn(3, ' ').nth(2)).collect();
     let session = ["open done", "round done 00000 00", "run rest 2", "round done 00000 00", "run rest 1"];
     let expected = [
         &session[..],
@@ -59,19 +61,72 @@ fn the_document_s_lines_are_played() {
     assert_eq!(answers, expected.concat());
 }
 
-/// What is refused leaves the window and the buffers as they were.
+/// What is refused leaves the window, its last measured sheet too, and the buffers as they were.
 #[test]
 fn refused_calls_change_nothing() {
-    let mut before = "";
+    let mut before = vec![];
     for line in STDOUT.lines().filter(|line| !line.starts_with('#')) {
-        let digest = line.rsplit(' ').next().expect("a line has words");
+        let window: Vec<&str> = line.rsplitn(3, ' ').take(2).collect();
         if line.contains(" refused ") && !line.starts_with("open") {
-            assert_eq!(digest, before, "{line}");
+            assert_eq!(window, before, "{line}");
         }
-        if line.starts_with("round refused ") {
+        if line.starts_with("round refused ") || line.starts_with("raw refused ") {
             let buffers: Vec<&str> = line.split(' ').skip(3).take(2).collect();
             assert!(buffers.iter().all(|buffer| buffer.bytes().all(|byte| byte == b'7')), "{line}");
         }
-        before = digest;
+        before = window;
+    }
+}
+
+/// Only a raw round that is done, an edit and a fresh window change the last measured sheet.
+#[test]
+fn the_stored_script_s_other_calls_leave_the_sheet() {
+    let mut before = "0";
+    for line in STDOUT.lines().filter(|line| !line.starts_with('#')) {
+        let sheet = line.rsplit(' ').next().expect("a line has words");
+        if !["raw done ", "edit ", "open "].iter().any(|start| line.starts_with(start)) {
+            assert_eq!(sheet, before, "{line}");
+        }
+        before = sheet;
+    }
+}
+
+/// The parts of the stored output between comments, with the comment that each begins with.
+fn parts() -> impl Iterator<Item = (&'static str, Vec<&'static str>)> {
+    STDOUT.split("# ").skip(1).map(|part| {
+        let mut lines = part.lines();
+        (lines.next().expect("a comment has a line"), lines.collect())
+    })
+}
+
+/// Both round calls are refused 21 for each kind of fault, in each stage.
+#[test]
+fn both_round_calls_meet_every_kind_of_fault() {
+    let mut kinds = 0;
+    for (comment, lines) in parts().take_while(|(comment, _)| !comment.starts_with("windows with random entries")) {
+        let has = |start: &str| lines.iter().any(|line| line.starts_with(start));
+        if has("grow refused 21 ") {
+            assert!(has("round refused 21 ") && has("raw refused 21 "), "{comment}");
+            kinds += 1;
+        }
+    }
+    assert_eq!(kinds, 3 * 9 + 3);
+}
+
+/// A list with raw rounds, whose bytes are the sums modulo 2 of another list's defects, answers as that one.
+#[test]
+fn the_stored_script_s_raw_lists_answer_as_plain_ones() {
+    let lists = |kind| parts().filter(move |(comment, _)| comment.starts_with(kind)).map(|(_, lines)| lines);
+    let (plain, raw) = (lists("defects, ").flatten(), lists("measurements, ").flatten());
+    let (plain, raw): (Vec<&str>, Vec<&str>) = (plain.collect(), raw.collect());
+    assert_eq!(plain.len(), raw.len());
+    for (plain, raw) in plain.iter().zip(&raw) {
+        assert_eq!(replay::bare(plain), replay::bare(raw));
+        assert!(!plain.starts_with("raw ") && !raw.starts_with("round "), "{plain}, {raw}");
+    }
+    assert_eq!(raw.iter().filter(|line| line.starts_with("open done ")).count(), 3);
+    for answer in ROUND {
+        let start = format!("raw {answer} ");
+        assert!(raw.iter().any(|line| line.starts_with(&start) && !line.ends_with(" 0")), "{start}");
     }
 }

@@ -22,7 +22,7 @@ use Rattle.window.specs.Window.{isRest}
 use Rattle.window.specs.Fresh.{freshWindow}
 use Rattle.window.specs.Calls.{runCall}
 use Rattle.window.specs.declared.Window.{Window}
-use Rattle.law.specs.Law.{Call, round, grow, merging, run, Receipt, Played, returned, play, start, Spot, ends, sum, pending, standing, ending, Law}
+use Rattle.law.specs.Law.{Call, round, raw, grow, merging, run, Receipt, Played, returned, play, start, Spot, ends, sum, pending, standing, ending, Law}
 use Rattle.decoding.specs.Decoding.{finished, budget, Rounds, rounds, Decoded, behind, decoded}
 use Rattle.decoding.specs.Decoding as decoding
 
@@ -76,7 +76,7 @@ playedOf T input = play T (start (freshWindow (input .shape))) (callsOf (input .
 
 -- the receipt of a round and its result: the bytes of the one, the edges and the escapes of the other
 abbrev pub receiptWith : List ℕ → Result → Receipt
-receiptWith bytes r = record { bytes = bytes; edges = r .edges; escapes = r .escapes }
+receiptWith bytes r = record { defects = bytes; edges = r .edges; escapes = r .escapes }
 
 unfoldable pub receiptsOf : List (List ℕ) → List Result → List Receipt
 receiptsOf [] results = []
@@ -87,6 +87,7 @@ module _ (T : Table) where
   -- the steps that a call counts, if it is a run that is not refused
   abbrev pub countOf : Window → Call → List ℕ
   countOf w (round bytes edges escapes) = []
+  countOf w (raw bytes edges escapes) = []
   countOf w grow = []
   countOf w merging = []
   countOf w (run budget) = valueOr (runCall T w budget) (λ r. r .count ∷ []) []

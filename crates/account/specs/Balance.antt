@@ -66,7 +66,7 @@ module _ (T : Table) (p : Played) (sh : Shape) (rounds : List (List ℕ)) (resul
   received-is : (a : Spot) → receivedIn input a ≡ received p a
   received-is a =
       ap (λ (x : Shape). if (ltb (a .round) (sheetsOf (x .distance))) 0 (getD (getD rounds (a .round - sheetsOf (x .distance)) []) (entryIn x a) 0)) (sym shape)
-      ∙ ap (λ (r : Receipt). if (ltb (a .round) (sheets p)) 0 (getD (r .bytes) (entryIn (p .window .shape) a) 0)) (sym (receipt-at (a .round - sheets p)))
+      ∙ ap (λ (r : Receipt). if (ltb (a .round) (sheets p)) 0 (getD (r .defects) (entryIn (p .window .shape) a) 0)) (sym (receipt-at (a .round - sheets p)))
 
   committed-is : (n i : ℕ) → committed p n i ≡ committedIn output n i
   committed-is n i = ap (λ (r : Receipt). eqb (getD (r .edges) i 0) 1) (receipt-at n)

@@ -24,7 +24,7 @@ use Rattle.window.specs.Grow.{grown}
 use Rattle.window.specs.Merging.{merged}
 use Rattle.window.specs.Run.{stepsFrom, ran}
 use Rattle.window.specs.LawsRun.{steps-rest, steps-on, none-left}
-use Rattle.window.specs.Calls.{Round, roundCall, runCall}
+use Rattle.window.specs.Calls.{Round, receiving, roundCall, runCall}
 use Rattle.window.specs.declared.Ran.{Ran}
 use Rattle.window.specs.declared.Window.{Window}
 use Rattle.closure.specs.Done.{accepted, staged}
@@ -113,8 +113,9 @@ module _ (T : Table) (s : List ℕ) (w : Window) (at : ℕ) (bytes : List ℕ) (
   abbrev pub resultBy : Result
   resultBy = record { edges = p .round .edges; escapes = p .round .escapes; steps = p .run .count }
 
-  gave : record { window = rounded T w (p .sheet); edges = committedEdges T w; escapes = escapedDefects w } ≡ p .round
-  gave = accepted T w (p .sheet) (replicate {A = ℕ} (edges w) 0) (replicate {A = ℕ} (detectors w) 0) (p .round) (p .receives .0) (p .receives .1) .value
+  gave : receiving T w (p .sheet) ≡ p .round
+  unfolding roundCall
+  gave = accepted T w (p .sheet) (replicate {A = ℕ} (edges w) 0) (replicate {A = ℕ} (detectors w) 0) (receiving T w (p .sheet)) (p .round) (p .receives .0) (p .receives .1) .value
 
   module _ (sh : Shape) (same : w .shape ≡ sh) where
     round-shape : p .round .window .shape ≡ sh

@@ -18,11 +18,15 @@ use Rattle.window.specs.Window.{isRest}
 use Rattle.window.specs.Calls.{Round, windowOf, roundCall}
 use Rattle.window.specs.declared.Ran.{Ran}
 use Rattle.window.specs.declared.Window.{Window}
-use Rattle.law.specs.Law.{Call, round, run, Receipt, receiptOf, returned, receipted, play}
+use Rattle.law.specs.Law.{Call, round, run, Receipt, Played, receiptOf, returned, receipted, play}
 use Rattle.decoding.specs.Decoding.{Line, finished, budget, Recorded, wrote, stopped, recordAt, Rounds, stop, after, roundsFrom, rounds}
 use Rattle.account.specs.Account.{callsOf, receiptsOf, countOf, countsOf, stepsIn}
 use Rattle.account.specs.ByCalls.{ByCalls, by-calls, resultBy, by-shape, by-rest, by-fits, by-sheet}
 use Rattle.account.specs.Ends.{finished-end}
+
+-- a window and receipts, with no raw call among them
+abbrev pub withoutRaw : Window → List Receipt → Played
+withoutRaw w receipts = record { window = w; receipts = receipts; lastRaw = [] }
 
 -- what was decoded from a window and an offset on
 pub record Followed (T : Table) (s : List ℕ) (sh : Shape) (w : Window) (at : ℕ) (r : Rounds) : Type 0 where
@@ -36,7 +40,7 @@ pub record Followed (T : Table) (s : List ℕ) (sh : Shape) (w : Window) (at : �
   pub writes : r .output ≡ allBytes result results
   -- the law's calls, after any others
   pub plays : (before : List Receipt)
-      → play T (record { window = w; receipts = before }) (callsOf sh rounds) ≡ record { window = r .window; receipts = before ++ receiptsOf rounds results }
+      → play T (withoutRaw w before) (callsOf sh rounds) ≡ withoutRaw (r .window) (before ++ receiptsOf rounds results)
   pub steps : countsOf T w (callsOf sh rounds) ≡ map stepsIn results
   pub rests : isRest (w .stage) ≡ true → isRest (r .window .stage) ≡ true
   pub shape : r .window .shape ≡ sh
@@ -76,10 +80,10 @@ module _ (T : Table) (s : List ℕ) (w : Window) (at : ℕ) (bytes : List ℕ) (
   one-count = ap (λ (a : Answer Ran). valueOr a (λ r. r .count ∷ []) []) (p .runs .1)
 
   turn-plays : (before : List Receipt) (cs : List Call)
-      → play T (record { window = w; receipts = before }) (receives ∷ runs ∷ cs) ≡ play T (record { window = v; receipts = before ++ (receipt ∷ []) }) cs
+      → play T (withoutRaw w before) (receives ∷ runs ∷ cs) ≡ play T (withoutRaw v (before ++ (receipt ∷ []))) cs
   unfolding play
   turn-plays before cs =
-      ap₂ (λ (u : Window) (l : List Receipt). play T (record { window = u; receipts = l }) cs) window-both
+      ap₂ (λ (u : Window) (l : List Receipt). play T (withoutRaw u l) cs) window-both
       (append-nil (before ++ receipted T w receives) ∙ ap (λ (l : List Receipt). before ++ l) one-receipt)
 
   turn-counts : (cs : List Call) → countsOf T w (receives ∷ runs ∷ cs) ≡ p .run .count ∷ countsOf T v cs
@@ -102,7 +106,7 @@ module _ (T : Table) (s : List ℕ) (b : Bytes s) (size : ℕ) (sh : Shape) wher
         each = refl;
         reads = refl;
         writes = refl;
-        plays = λ before. ap (λ (x : List Receipt). record { window = w; receipts = x }) (sym (append-nil before));
+        plays = λ before. ap (withoutRaw w) (sym (append-nil before));
         steps = refl;
         rests = λ h. h;
         shape = same;
@@ -127,7 +131,7 @@ module _ (T : Table) (s : List ℕ) (b : Bytes s) (size : ℕ) (sh : Shape) wher
         plays = λ before.
             turn-plays T s w at bytes v next p sh same before (callsOf sh (f .rounds))
             ∙ f .plays (before ++ (receiptOf (p .sheet) (p .round) ∷ []))
-            ∙ ap (λ (l : List Receipt). record { window = r .window; receipts = l }) (append-snoc before (receiptOf (p .sheet) (p .round)) (receiptsOf (f .rounds) (f .results)));
+            ∙ ap (withoutRaw (r .window)) (append-snoc before (receiptOf (p .sheet) (p .round)) (receiptsOf (f .rounds) (f .results)));
         steps = turn-counts T s w at bytes v next p sh same (callsOf sh (f .rounds)) ∙ ap (λ (l : List ℕ). p .run .count ∷ l) (f .steps);
         rests = λ h. f .rests (by-rest T s w at bytes v next p sh same);
         shape = f .shape;

@@ -4,25 +4,36 @@ use Prim.Native.Nat.{ℕ}
 use mathlib.Core.Path.{_≡_, refl, sym, _∙_, ap, ap₂, subst}
 use mathlib.Core.Bool.{Bool}
 use mathlib.Core.List.{List, [], _∷_, _++_, append-nil}
-use Rattle.refusal.specs.Answer.{Answer, done, ended, refused, refusedAt, withoutValue, valueOr, itself}
+use Rattle.refusal.specs.Answer.{Answer, done, ended, refused, refusedAt, valueOr, itself}
 use Rattle.refusal.specs.Done.{never}
+use Rattle.refusal.specs.Laws.{value-without}
 use Rattle.steps.specs.Steps.{Table, base}
 use Rattle.window.specs.Fresh.{noWindow}
-use Rattle.window.specs.Calls.{Answered, Round, windowOf, edgesOf, escapesOf, leaves, freshCall, roundCall, growCall}
+use Rattle.window.specs.Measured.{differences}
+use Rattle.window.specs.Calls.{Answered, Round, leaves, freshCall, roundCall, rawCall, growCall}
 use Rattle.window.specs.declared.Window.{Window}
-use Rattle.calls.specs.Answers.{RoundReturned, roundReturned, roundLeaves, mergingLeaves, Ended, runLeaves}
-use Rattle.law.specs.Law.{Call, round, grow, merging, run, Receipt, Played, receiptOf, returned, receipted, play, start, Law, Demand3}
+use Rattle.calls.specs.Answers.{RoundReturned, roundLeft, roundLeaves, rawLeaves, mergingLeaves, Ended, runLeaves}
+use Rattle.law.specs.Law.{Call, round, raw, grow, merging, run, Receipt, Played, receiptOf, returned, receipted, lastRawAfter, play, start, Law, Demand3}
 use Rattle.law.specs.Play.{play-append}
 use Rattle.law.specs.Theorem.{demand3}
 
--- THE RECEIPT that a round call's promise gives: its bytes, and both buffers as the promise says that they are left; none where it is refused
+-- THE RECEIPT that a round call's promise gives, plain or raw: the defects received, and both buffers as the promise says that they are left;
+-- none where it is refused
 abbrev pub receiptIn : List ℕ → RoundReturned → List Receipt
-receiptIn bytes x = valueOr (x .answer) (λ u. record { bytes = bytes; edges = x .edges; escapes = x .escapes } ∷ []) []
+receiptIn defects x = valueOr (x .answer) (λ u. record { defects = defects; edges = x .edges; escapes = x .escapes } ∷ []) []
 
--- ONE CALL: the window and the receipt that the law goes on with, on the right, are those of the promise, on the left
+-- THE BYTES of the last raw call, by a raw call's promise: its own, or the old ones where it is refused
+abbrev pub lastRawIn : List ℕ → List ℕ → RoundReturned → List ℕ
+lastRawIn bytes old x = valueOr (x .answer) (λ u. bytes) old
+
+-- ONE CALL: the window, the receipt and the last raw bytes that the law goes on with, on the right, are those of the promise, on the left
 pub record Linked (T : Table) : Type 0 where
   pub rounds : (w : Window) (bytes edges escapes : List ℕ) → roundLeaves T w bytes edges escapes .window ≡ returned T w (round bytes edges escapes)
   pub receipts : (w : Window) (bytes edges escapes : List ℕ) → receiptIn bytes (roundLeaves T w bytes edges escapes) ≡ receipted T w (round bytes edges escapes)
+  pub raws : (w : Window) (bytes edges escapes : List ℕ) → rawLeaves T w bytes edges escapes .window ≡ returned T w (raw bytes edges escapes)
+  pub raw-receipts : (w : Window) (bytes edges escapes : List ℕ)
+      → receiptIn (differences (w .measured) bytes) (rawLeaves T w bytes edges escapes) ≡ receipted T w (raw bytes edges escapes)
+  pub last-raws : (w : Window) (old bytes edges escapes : List ℕ) → lastRawIn bytes old (rawLeaves T w bytes edges escapes) ≡ lastRawAfter T w old (raw bytes edges escapes)
   pub grows : (w : Window) → leaves (growCall T w) itself w .window ≡ returned T w grow
   pub mergings : (w : Window) → mergingLeaves T w .window ≡ returned T w merging
   pub runs : (w : Window) (budget : ℕ) → runLeaves T w budget .window ≡ returned T w (run budget)
@@ -30,21 +41,28 @@ pub record Linked (T : Table) : Type 0 where
   pub fresh : (height distance n : ℕ) → leaves (freshCall height distance) itself noWindow .answer ≡ done tt n
       → freshCall height distance ≡ done (leaves (freshCall height distance) itself noWindow .window) n
 
--- LISTS OF CALLS, by their promises alone: what is left, and the receipts, after calls that each get the window as the last one returned it
+-- LISTS OF CALLS, by their promises alone: what is left, the receipts and the last raw bytes, after calls that each get the window as the last one returned it
 pub data Promised (T : Table) (fresh : Window) : Played → Type 0 where
   at-start : Promised T fresh (start fresh)
   after-round : (p : Played) → Promised T fresh p → (bytes edges escapes : List ℕ) (x : RoundReturned)
       → x ≡ roundLeaves T (p .window) bytes edges escapes
-      → Promised T fresh (record { window = x .window; receipts = p .receipts ++ receiptIn bytes x })
+      → Promised T fresh (record { window = x .window; receipts = p .receipts ++ receiptIn bytes x; lastRaw = p .lastRaw })
+  after-raw : (p : Played) → Promised T fresh p → (bytes edges escapes : List ℕ) (x : RoundReturned)
+      → x ≡ rawLeaves T (p .window) bytes edges escapes
+      → Promised T fresh (record {
+        window = x .window;
+        receipts = p .receipts ++ receiptIn (differences (p .window .measured) bytes) x;
+        lastRaw = lastRawIn bytes (p .lastRaw) x;
+      })
   after-grow : (p : Played) → Promised T fresh p → (x : Answered (Unit {0}))
       → x ≡ leaves (growCall T (p .window)) itself (p .window)
-      → Promised T fresh (record { window = x .window; receipts = p .receipts })
+      → Promised T fresh (record { window = x .window; receipts = p .receipts; lastRaw = p .lastRaw })
   after-merging : (p : Played) → Promised T fresh p → (x : Answered Bool)
       → x ≡ mergingLeaves T (p .window)
-      → Promised T fresh (record { window = x .window; receipts = p .receipts })
+      → Promised T fresh (record { window = x .window; receipts = p .receipts; lastRaw = p .lastRaw })
   after-run : (p : Played) → Promised T fresh p → (budget : ℕ) (x : Answered Ended)
       → x ≡ runLeaves T (p .window) budget
-      → Promised T fresh (record { window = x .window; receipts = p .receipts })
+      → Promised T fresh (record { window = x .window; receipts = p .receipts; lastRaw = p .lastRaw })
 
 -- the law holds after them, if the promise of the fresh window says that it is done
 abbrev pub Reaches : Table → Type 0
@@ -53,12 +71,12 @@ Reaches T = (height distance n : ℕ) (x : Answered (Unit {0})) → x ≡ leaves
 
 -- THE PROOF
 
-receipt-is : (a : Answer Round) (w : Window) (bytes edges escapes : List ℕ)
-    → receiptIn bytes (roundReturned (withoutValue a) (valueOr a windowOf w) (valueOr a edgesOf edges) (valueOr a escapesOf escapes)) ≡ valueOr a (λ r. receiptOf bytes r ∷ []) []
-receipt-is (done r n) w bytes edges escapes = refl
-receipt-is ended w bytes edges escapes = refl
-receipt-is (refused n) w bytes edges escapes = refl
-receipt-is (refusedAt n at) w bytes edges escapes = refl
+receipt-is : (a : Answer Round) (w : Window) (defects edges escapes : List ℕ)
+    → receiptIn defects (roundLeft a w edges escapes) ≡ valueOr a (λ r. receiptOf defects r ∷ []) []
+receipt-is (done r n) w defects edges escapes = refl
+receipt-is ended w defects edges escapes = refl
+receipt-is (refused n) w defects edges escapes = refl
+receipt-is (refusedAt n at) w defects edges escapes = refl
 
 fresh-is : (a : Answer Window) (n : ℕ) → leaves a itself noWindow .answer ≡ done tt n → a ≡ done (leaves a itself noWindow .window) n
 fresh-is (done w m) n e = let k : m ≡ n = cc in ap (λ (i : ℕ). done w i) k
@@ -71,6 +89,9 @@ linked T =
     record {
       rounds = λ w bytes edges escapes. refl;
       receipts = λ w bytes edges escapes. receipt-is (roundCall T w bytes edges escapes) w bytes edges escapes;
+      raws = λ w bytes edges escapes. refl;
+      raw-receipts = λ w bytes edges escapes. receipt-is (rawCall T w bytes edges escapes) w (differences (w .measured) bytes) edges escapes;
+      last-raws = λ w old bytes edges escapes. value-without (rawCall T w bytes edges escapes) bytes old;
       grows = λ w. refl;
       mergings = λ w. refl;
       runs = λ w budget. refl;
@@ -82,28 +103,36 @@ module _ (T : Table) (fresh : Window) where
   abbrev Listed : Played → Type 0
   Listed p = (calls : List Call) × (play T (start fresh) calls ≡ p)
 
-  one-more : (p : Played) (c : Call) (w : Window) (receipts : List Receipt) → w ≡ returned T (p .window) c → receipts ≡ receipted T (p .window) c
-      → Listed p → Listed (record { window = w; receipts = p .receipts ++ receipts })
+  one-more : (p : Played) (c : Call) (w : Window) (receipts : List Receipt) (lastRaw : List ℕ) → w ≡ returned T (p .window) c → receipts ≡ receipted T (p .window) c
+      → lastRaw ≡ lastRawAfter T (p .window) (p .lastRaw) c → Listed p → Listed (record { window = w; receipts = p .receipts ++ receipts; lastRaw = lastRaw })
   unfolding play
-  one-more p c w receipts e f l = (
+  one-more p c w receipts lastRaw e f g l = (
     l .0 ++ (c ∷ []),
     play-append T (start fresh) (l .0) (c ∷ [])
         ∙ ap (λ (q : Played). play T q (c ∷ [])) (l .1)
-        ∙ ap₂ (λ (v : Window) (r : List Receipt). record { window = v; receipts = p .receipts ++ r }) (sym e) (sym f),
+        ∙ ap₂ (λ (v : Window) (r : List Receipt). record { window = v; receipts = p .receipts ++ r; lastRaw = lastRawAfter T (p .window) (p .lastRaw) c }) (sym e) (sym f)
+        ∙ ap (λ (m : List ℕ). record { window = w; receipts = p .receipts ++ receipts; lastRaw = m }) (sym g),
   )
 
-  unreceipted : (p : Played) (c : Call) (w : Window) → w ≡ returned T (p .window) c → [] ≡ receipted T (p .window) c → Listed p → Listed (record { window = w; receipts = p .receipts })
-  unreceipted p c w e f l = subst (λ (r : List Receipt). Listed (record { window = w; receipts = r })) (append-nil (p .receipts)) (one-more p c w [] e f l)
+  unreceipted : (p : Played) (c : Call) (w : Window) → w ≡ returned T (p .window) c → [] ≡ receipted T (p .window) c → p .lastRaw ≡ lastRawAfter T (p .window) (p .lastRaw) c
+      → Listed p → Listed (record { window = w; receipts = p .receipts; lastRaw = p .lastRaw })
+  unreceipted p c w e f g l =
+      subst (λ (r : List Receipt). Listed (record { window = w; receipts = r; lastRaw = p .lastRaw })) (append-nil (p .receipts)) (one-more p c w [] (p .lastRaw) e f g l)
 
   listed : (p : Played) → Promised T fresh p → Listed p
   unfolding play
   listed _ at-start = ([], refl)
   listed _ (after-round p k bytes edges escapes x e) =
-      one-more p (round bytes edges escapes) (x .window) (receiptIn bytes x) (ap (λ (y : RoundReturned). y .window) e)
-      (ap (receiptIn bytes) e ∙ linked T .receipts (p .window) bytes edges escapes) (listed p k)
-  listed _ (after-grow p k x e) = unreceipted p grow (x .window) (ap (λ (y : Answered (Unit {0})). y .window) e) refl (listed p k)
-  listed _ (after-merging p k x e) = unreceipted p merging (x .window) (ap (λ (y : Answered Bool). y .window) e) refl (listed p k)
-  listed _ (after-run p k budget x e) = unreceipted p (run budget) (x .window) (ap (λ (y : Answered Ended). y .window) e) refl (listed p k)
+      one-more p (round bytes edges escapes) (x .window) (receiptIn bytes x) (p .lastRaw) (ap (λ (y : RoundReturned). y .window) e)
+      (ap (receiptIn bytes) e ∙ linked T .receipts (p .window) bytes edges escapes) refl (listed p k)
+  listed _ (after-raw p k bytes edges escapes x e) =
+      let d = differences (p .window .measured) bytes in
+      one-more p (raw bytes edges escapes) (x .window) (receiptIn d x) (lastRawIn bytes (p .lastRaw) x) (ap (λ (y : RoundReturned). y .window) e)
+      (ap (receiptIn d) e ∙ linked T .raw-receipts (p .window) bytes edges escapes)
+      (ap (lastRawIn bytes (p .lastRaw)) e ∙ linked T .last-raws (p .window) (p .lastRaw) bytes edges escapes) (listed p k)
+  listed _ (after-grow p k x e) = unreceipted p grow (x .window) (ap (λ (y : Answered (Unit {0})). y .window) e) refl refl (listed p k)
+  listed _ (after-merging p k x e) = unreceipted p merging (x .window) (ap (λ (y : Answered Bool). y .window) e) refl refl (listed p k)
+  listed _ (after-run p k budget x e) = unreceipted p (run budget) (x .window) (ap (λ (y : Answered Ended). y .window) e) refl refl (listed p k)
 
 reaches : (T : Table) → Demand3 T → Reaches T
 reaches T law height distance n x e d p k =

@@ -12,11 +12,11 @@ use Rattle.record.specs.Records.{Result, result}
 use Rattle.trip.specs.Streams.{allBytes}
 use Rattle.trip.specs.Fits.{Each, RoundFits, RecordFits}
 use Rattle.window.specs.declared.Window.{Window}
-use Rattle.law.specs.Law.{Call, Receipt, Played, returned, receipted, play}
+use Rattle.law.specs.Law.{Call, Receipt, Played, called, play}
 use Rattle.law.specs.Play.{play-append}
 use Rattle.decoding.specs.Decoding.{Rounds, after, rounds}
 use Rattle.account.specs.Account.{callsOf, receiptsOf, countOf, countsOf, stepsIn, resumedFrom}
-use Rattle.account.specs.Follow.{Followed, followed}
+use Rattle.account.specs.Follow.{Followed, followed, withoutRaw}
 
 -- ONE LIST BEHIND ANOTHER
 
@@ -43,32 +43,31 @@ receipts-append (x ∷ xs) [] ys vs e = absurd (omega arith)
 receipts-append (x ∷ xs) (u ∷ us) ys vs e = rw (receipts-append xs us ys vs (omega arith)) refl
 
 module _ (T : Table) where
-  counts-append : (w : Window) (before : List Receipt) (cs ds : List Call)
-      → countsOf T w (cs ++ ds) ≡ countsOf T w cs ++ countsOf T (play T (record { window = w; receipts = before }) cs .window) ds
+  counts-append : (p : Played) (cs ds : List Call) → countsOf T (p .window) (cs ++ ds) ≡ countsOf T (p .window) cs ++ countsOf T (play T p cs .window) ds
   unfolding play countsOf
-  counts-append w before [] ds = refl
-  counts-append w before (c ∷ cs) ds =
-      ap (λ (l : List ℕ). countOf T w c ++ l) (counts-append (returned T w c) (before ++ receipted T w c) cs ds)
-      ∙ sym (append-assoc (countOf T w c) (countsOf T (returned T w c) cs) _)
+  counts-append p [] ds = refl
+  counts-append p (c ∷ cs) ds =
+      let q = called T p c in
+      ap (λ (l : List ℕ). countOf T (p .window) c ++ l) (counts-append q cs ds) ∙ sym (append-assoc (countOf T (p .window) c) (countsOf T (q .window) cs) _)
 
 -- ONE PIECE BEHIND ANOTHER
 
 module _ (T : Table) (s : List ℕ) (sh : Shape) (w : Window) (at : ℕ) (r q : Rounds) (f : Followed T s sh w at r) (g : Followed T s sh (r .window) (r .next) q) where
-  both-play : (before : List Receipt) → play T (record { window = w; receipts = before }) (callsOf sh (f .rounds ++ g .rounds))
-      ≡ record { window = q .window; receipts = before ++ receiptsOf (f .rounds ++ g .rounds) (f .results ++ g .results) }
+  both-play : (before : List Receipt) → play T (withoutRaw w before) (callsOf sh (f .rounds ++ g .rounds))
+      ≡ withoutRaw (q .window) (before ++ receiptsOf (f .rounds ++ g .rounds) (f .results ++ g .results))
   both-play before =
-      ap (λ (cs : List Call). play T (record { window = w; receipts = before }) cs) (calls-append sh (f .rounds) (g .rounds))
-      ∙ play-append T (record { window = w; receipts = before }) (callsOf sh (f .rounds)) (callsOf sh (g .rounds))
+      ap (λ (cs : List Call). play T (withoutRaw w before) cs) (calls-append sh (f .rounds) (g .rounds))
+      ∙ play-append T (withoutRaw w before) (callsOf sh (f .rounds)) (callsOf sh (g .rounds))
       ∙ ap (λ (p : Played). play T p (callsOf sh (g .rounds))) (f .plays before)
       ∙ g .plays (before ++ receiptsOf (f .rounds) (f .results))
-      ∙ ap (λ (l : List Receipt). record { window = q .window; receipts = l })
+      ∙ ap (withoutRaw (q .window))
       (append-assoc before (receiptsOf (f .rounds) (f .results)) (receiptsOf (g .rounds) (g .results))
       ∙ ap (λ (l : List Receipt). before ++ l) (sym (receipts-append (f .rounds) (f .results) (g .rounds) (g .results) (f .each))))
 
   both-count : countsOf T w (callsOf sh (f .rounds ++ g .rounds)) ≡ map stepsIn (f .results ++ g .results)
   both-count =
       ap (λ (cs : List Call). countsOf T w cs) (calls-append sh (f .rounds) (g .rounds))
-      ∙ counts-append T w [] (callsOf sh (f .rounds)) (callsOf sh (g .rounds))
+      ∙ counts-append T (withoutRaw w []) (callsOf sh (f .rounds)) (callsOf sh (g .rounds))
       ∙ ap (λ (p : Played). countsOf T w (callsOf sh (f .rounds)) ++ countsOf T (p .window) (callsOf sh (g .rounds))) (f .plays [])
       ∙ ap₂ (λ (k l : List ℕ). k ++ l) (f .steps) (g .steps)
       ∙ sym (map-append stepsIn (f .results) (g .results))

@@ -28,7 +28,7 @@ use Rattle.law.specs.Theorem as theorem
 use Rattle.decoding.specs.Decoding.{finished, Rounds, rounds, Decoded, nothingWritten, behind, decoded}
 use Rattle.decoding.specs.LawsDecoding.{onHeader, by-header, decoded-on}
 use Rattle.account.specs.Account.{callsOf, receiptsOf, playedOf, resumedFrom, Account, WindowAccount, Accounts}
-use Rattle.account.specs.Follow.{Followed, followed}
+use Rattle.account.specs.Follow.{Followed, followed, withoutRaw}
 use Rattle.account.specs.Resumed.{followed-resumed}
 use Rattle.account.specs.Front.{front-of}
 use Rattle.account.specs.Balance.{in-streams, alone}
@@ -107,7 +107,7 @@ module _ (T : Table) (S : Suited T) (L : Layered T) (s : List ℕ) (size : ℕ) 
     back : resultsOf (header sh ++ r .output) ≡ done output (length (header sh ++ r .output))
     back = subst (λ (x : List ℕ). resultsOf x ≡ done output (length x)) (sym writes) (round-trips .result-reads output fits)
 
-    plays : playedOf T input ≡ record { window = r .window; receipts = receiptsOf (f .rounds) (f .results) }
+    plays : playedOf T input ≡ withoutRaw (r .window) (receiptsOf (f .rounds) (f .results))
     plays = f .plays []
 
     receipts : playedOf T input .receipts ≡ receiptsOf (f .rounds) (f .results)

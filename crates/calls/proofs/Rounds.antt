@@ -1,24 +1,24 @@
 -- What a round leaves, by what its tests say. Assumes nothing.
-use Prim.Native.Nat.{ℕ}
+use Prim.Native.Nat.{ℕ, _<_}
 use mathlib.Core.Path.{_≡_, sym, _∙_, ap}
-use mathlib.Core.Bool.{true}
+use mathlib.Core.Bool.{Bool, true}
 use mathlib.Core.List.{List}
 use lib.ListN.{length}
-use Rattle.refusal.specs.Answer.{Answer, done, turned, unless, withoutValue, valueOr}
+use Rattle.refusal.specs.Answer.{Answer, done, turned, unless}
 use Rattle.refusal.specs.Laws.{turned-not, turned-passed, value-not}
 use Rattle.refusal.specs.Tests.{tests-fine, tests-turned}
 use Rattle.refusal.specs.declared.Refusal.{Refusal}
 use Rattle.shape.specs.Ranges.{halves}
-use Rattle.shape.specs.Sizes.{inRange}
+use Rattle.shape.specs.Sizes.{inRange, detectorsOf, layerEdgesOf}
 use Rattle.steps.specs.Steps.{base}
 use Rattle.window.specs.Formed.{wellFormed}
-use Rattle.window.specs.Round.{rounded, committedEdges, escapedDefects}
-use Rattle.window.specs.Calls.{callAnswer, Round, windowOf, edgesOf, escapesOf, roundTests, roundCall}
+use Rattle.window.specs.Calls.{callAnswer, Round, windowOf, edgesOf, escapesOf, roundTests, roundBy}
 use Rattle.window.specs.declared.Called.{Called}
 use Rattle.window.specs.declared.Called.the-variants as called
 use Rattle.window.specs.declared.Window.{Window}
-use Rattle.calls.specs.Answers.{RoundReturned, roundReturned, roundLeaves}
+use Rattle.calls.specs.Answers.{roundReturned, roundLeft}
 use Rattle.tested.proofs.State.{fine}
+use Rattle.tested.proofs.Round.{round-fine}
 
 -- a well-formed window has a shape in range
 pub formed-ranged : (w : Window) → wellFormed base w ≡ true → inRange (w .shape .height) (w .shape .distance) ≡ true
@@ -29,31 +29,42 @@ formed-ranged w e =
     let c = halves _ _ (b .0) in
     let d = halves _ _ (c .0) in
     let f = halves _ _ (d .0) in
-    halves _ _ (f .0) .0
+    let g = halves _ _ (f .0) in
+    halves _ _ (g .0) .0
 
-abbrev leftBy : Window → List ℕ → List ℕ → Answer Round → RoundReturned
-leftBy w edges escapes a = roundReturned (withoutValue a) (valueOr a windowOf w) (valueOr a edgesOf edges) (valueOr a escapesOf escapes)
+-- what a round asks for, where its tests passed
+pub record Asked (w : Window) (bytes edges escapes : List ℕ) : Type 0 where
+  pub asked :
+      (inRange (w .shape .height) (w .shape .distance) ≡ true)
+      × ((w .next < 4294967295)
+      × ((length bytes ≡ detectorsOf (w .shape .height) (w .shape .distance))
+      × ((length edges ≡ layerEdgesOf (w .shape .height) (w .shape .distance)) × (length escapes ≡ detectorsOf (w .shape .height) (w .shape .distance)))))
 
-module _ (w : Window) (bytes edges escapes : List ℕ) where
-  abbrev after : Round
-  after = record { window = rounded base w bytes; edges = committedEdges base w; escapes = escapedDefects w }
+pub asks : (w : Window) (bytes edges escapes : List ℕ) (r : Called) → callAnswer r ≡ unless (roundTests base w bytes (length edges) (length escapes)) fine → r ≡ called.Done
+    → Asked w bytes edges escapes
+asks w bytes edges escapes r told-as z =
+    let f = round-fine w bytes (length edges) (length escapes) r told-as z in
+    record { asked = (formed-ranged w (f .formed), (f .next, (f .sheet, (f .layer, f .bottom)))) }
 
-  pub round-refused : (r : Called) → callAnswer r ≡ unless (roundTests base w bytes (length edges) (length escapes)) fine → (f : Refusal) → r ≡ called.Refused f
-      → roundReturned (turned f) w edges escapes ≡ roundLeaves base w bytes edges escapes
-  unfolding roundCall
-  round-refused r told-as f z =
-      let e = ap callAnswer (sym z) ∙ told-as in
-      let t = tests-turned (roundTests base w bytes (length edges) (length escapes)) tt 0 f (sym e) Round (done after 0) in
-      sym (ap (λ (a : Answer Round). leftBy w edges escapes a) t ∙ rw (
-        turned-passed Round f,
-        value-not (turned {A = Round} f) windowOf w (turned-not Round f),
-        value-not (turned {A = Round} f) edgesOf edges (turned-not Round f),
-        value-not (turned {A = Round} f) escapesOf escapes (turned-not Round f),
-      ))
+-- plain or raw: v is what the call leaves where it is done
+module _ (w : Window) (bytes edges escapes : List ℕ) (v : Round) where
+  abbrev tests : List (Bool × ℕ)
+  tests = roundTests base w bytes (length edges) (length escapes)
 
-  pub round-done : (r : Called) → callAnswer r ≡ unless (roundTests base w bytes (length edges) (length escapes)) fine → r ≡ called.Done
-      → roundReturned fine (rounded base w bytes) (committedEdges base w) (escapedDefects w) ≡ roundLeaves base w bytes edges escapes
-  unfolding roundCall
-  round-done r told-as z =
-      let e = ap callAnswer (sym z) ∙ told-as in
-      sym (ap (λ (a : Answer Round). leftBy w edges escapes a) (tests-fine (roundTests base w bytes (length edges) (length escapes)) (sym e) Round (done after 0)))
+  module _ (r : Called) (told-as : callAnswer r ≡ unless tests fine) where
+    pub round-refused : (f : Refusal) → r ≡ called.Refused f → roundReturned (turned f) w edges escapes ≡ roundLeft (roundBy base w v bytes edges escapes) w edges escapes
+    round-refused f z =
+        let e = ap callAnswer (sym z) ∙ told-as in
+        let t = tests-turned tests tt 0 f (sym e) Round (done v 0) in
+        sym (ap (λ (a : Answer Round). roundLeft a w edges escapes) t ∙ rw (
+          turned-passed Round f,
+          value-not (turned {A = Round} f) windowOf w (turned-not Round f),
+          value-not (turned {A = Round} f) edgesOf edges (turned-not Round f),
+          value-not (turned {A = Round} f) escapesOf escapes (turned-not Round f),
+        ))
+
+    pub round-done : (x : Round) → r ≡ called.Done → x ≡ v → roundReturned fine (x .window) (x .edges) (x .escapes) ≡ roundLeft (roundBy base w v bytes edges escapes) w edges escapes
+    round-done x z k =
+        let e = ap callAnswer (sym z) ∙ told-as in
+        ap (λ (y : Round). roundReturned fine (y .window) (y .edges) (y .escapes)) k
+        ∙ sym (ap (λ (a : Answer Round). roundLeft a w edges escapes) (tests-fine tests (sym e) Round (done v 0)))

@@ -5,14 +5,14 @@ use mathlib.Core.List.{List}
 use Rattle.refusal.specs.Answer.{Answer, done, turned, andThen, withoutValue, valueOr, itself}
 use Rattle.steps.specs.Steps.{Table}
 use Rattle.window.specs.Window.{isRest}
-use Rattle.window.specs.Calls.{Answered, given, windowOf, edgesOf, escapesOf, roundCall, mergingCall, runCall}
+use Rattle.window.specs.Calls.{Answered, given, Round, windowOf, edgesOf, escapesOf, roundCall, rawCall, mergingCall, runCall}
 use Rattle.window.specs.declared.Window.{Window}
 use Rattle.calls.specs.declared.Outcome.{Outcome}
 use Rattle.calls.specs.declared.Outcome.the-variants as outcome
 use Rattle.calls.specs.declared.Merged.{Merged}
 use Rattle.calls.specs.declared.Merged.the-variants as merged
 
--- ROUND: the answer, the window and both buffers
+-- ROUND, plain or raw: the answer, the window and both buffers
 
 pub record RoundReturned : Type 0 where
   pub answer : Answer (Unit {0})
@@ -24,10 +24,14 @@ abbrev pub roundReturned : Answer (Unit {0}) → Window → List ℕ → List �
 roundReturned a w edges escapes = record { answer = a; window = w; edges = edges; escapes = escapes }
 
 -- what is refused stays as it was
+abbrev pub roundLeft : Answer Round → Window → List ℕ → List ℕ → RoundReturned
+roundLeft a w edges escapes = roundReturned (withoutValue a) (valueOr a windowOf w) (valueOr a edgesOf edges) (valueOr a escapesOf escapes)
+
 abbrev pub roundLeaves : Table → Window → List ℕ → List ℕ → List ℕ → RoundReturned
-roundLeaves T w bytes edges escapes =
-    let a = roundCall T w bytes edges escapes in
-    roundReturned (withoutValue a) (valueOr a windowOf w) (valueOr a edgesOf edges) (valueOr a escapesOf escapes)
+roundLeaves T w bytes edges escapes = roundLeft (roundCall T w bytes edges escapes) w edges escapes
+
+abbrev pub rawLeaves : Table → Window → List ℕ → List ℕ → List ℕ → RoundReturned
+rawLeaves T w bytes edges escapes = roundLeft (rawCall T w bytes edges escapes) w edges escapes
 
 -- MERGING: the answer says whether the stage is rest
 

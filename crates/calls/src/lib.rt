@@ -7,7 +7,7 @@ ghost use mathlib.Core.Path.{_≡_};
 ghost use Rattle.refusal.specs.Answer.{itself};
 ghost use Rattle.steps.specs.Steps.{base};
 ghost use Rattle.window.specs.Calls.{callAnswer, given, leaves, growCall};
-ghost use Rattle.calls.specs.Answers.{roundReturned, roundLeaves, mergingAnswer, mergingLeaves, runAnswer, runLeaves};
+ghost use Rattle.calls.specs.Answers.{roundReturned, roundLeaves, rawLeaves, mergingAnswer, mergingLeaves, runAnswer, runLeaves};
 
 // How a merging step ended: some node was busy, or none was and the stage is rest.
 pub enum Merged {
@@ -33,7 +33,7 @@ pub struct Concluded {
     pub window: Window,
 }
 
-// Receives a round: the bottom layer's edges and defects go to the buffers, and all else moves down one sheet.
+// Receives a round of defects: the bottom layer's edges and defects go to the buffers, and all else moves down one sheet.
 pub fn round(w: Window, bytes: &[u8], edges: &mut [u8], escapes: &mut [u8]) -> Given
     ensures { λ r. ⌜ roundReturned (callAnswer (r .answer)) (r .window) (now (edges .exit)) (now (escapes .exit)) ≡ roundLeaves base w (now (bytes .entry)) (now (edges .entry)) (now (escapes .entry)) ⌝ }
 {
@@ -44,11 +44,26 @@ pub fn round(w: Window, bytes: &[u8], edges: &mut [u8], escapes: &mut [u8]) -> G
             window: w,
         };
     }
-    leaving::commit(w, edges);
-    leaving::escape(w, escapes);
     Given {
         answer: Called::Done,
-        window: round::sink(w, bytes),
+        window: round::round(w, bytes, edges, escapes),
+    }
+}
+
+// Receives a round of raw measurements: its defects are the places that differ from the last measured sheet, which the bytes then replace.
+pub fn raw_round(w: Window, bytes: &[u8], edges: &mut [u8], escapes: &mut [u8]) -> Given
+    ensures { λ r. ⌜ roundReturned (callAnswer (r .answer)) (r .window) (now (edges .exit)) (now (escapes .exit)) ≡ rawLeaves base w (now (bytes .entry)) (now (edges .entry)) (now (escapes .entry)) ⌝ }
+{
+    let tested = tested::test_round(w, bytes, edges.len(), escapes.len());
+    if let Called::Refused(f) = tested {
+        return Given {
+            answer: Called::Refused(f),
+            window: w,
+        };
+    }
+    Given {
+        answer: Called::Done,
+        window: raw::raw(w, bytes, edges, escapes),
     }
 }
 

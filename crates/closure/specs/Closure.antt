@@ -4,24 +4,27 @@ use mathlib.Core.Path.{_≡_, subst}
 use mathlib.Core.Bool.{true, false, not}
 use mathlib.Core.List.{List}
 use borrow.Author.Tests.{not-true}
+use lib.ListN.{length}
 use Rattle.refusal.specs.Answer.{done}
-use Rattle.shape.specs.Sizes.{inRange}
+use Rattle.shape.specs.Sizes.{inRange, detectorsOf}
 use Rattle.steps.specs.Steps.{Table, base}
 use Rattle.shape.specs.declared.Shape.{Shape}
 use Rattle.window.specs.Window.{isRest, isToGrow, isMerging}
 use Rattle.window.specs.Formed.{wellFormed}
 use Rattle.window.specs.Fresh.{freshWindow}
 use Rattle.window.specs.Round.{rounded}
+use Rattle.window.specs.Measured.{differences, measuring}
 use Rattle.window.specs.Grow.{grown}
 use Rattle.window.specs.Merging.{merged}
 use Rattle.window.specs.Run.{ran}
 use Rattle.window.specs.declared.Ran.{Ran}
-use Rattle.window.specs.Calls.{Round, freshCall, roundCall, growCall, mergingCall, runCall}
+use Rattle.window.specs.Calls.{Round, receiving, receivingRaw, freshCall, roundCall, rawCall, growCall, mergingCall, runCall}
 use Rattle.window.specs.declared.Window.{Window}
 use Rattle.closure.specs.Sized.{Sized}
 use Rattle.closure.specs.Suited.{Suited, suited-base}
 use Rattle.closure.specs.Fresh.{fresh, fresh-sized}
 use Rattle.closure.specs.Round.{round, round-sized}
+use Rattle.closure.specs.Measured.{measure, measure-sized}
 use Rattle.closure.specs.Grow.{grow, grow-sized}
 use Rattle.closure.specs.Merging.{merging, merging-sized}
 use Rattle.closure.specs.Run.{run-keeps}
@@ -36,6 +39,7 @@ pub record Kept (T : Table) (w : Window) : Type 0 where
 pub record Closed (T : Table) : Type 0 where
   pub freshCalls : (height distance : ℕ) (v : Window) (n : ℕ) → freshCall height distance ≡ done v n → Kept T v
   pub roundCalls : (w : Window) (bytes edges escapes : List ℕ) (v : Round) (n : ℕ) → Sized w → roundCall T w bytes edges escapes ≡ done v n → Kept T (v .window)
+  pub rawCalls : (w : Window) (bytes edges escapes : List ℕ) (v : Round) (n : ℕ) → Sized w → rawCall T w bytes edges escapes ≡ done v n → Kept T (v .window)
   pub growCalls : (w v : Window) (n : ℕ) → Sized w → growCall T w ≡ done v n → Kept T v
   pub mergingCalls : (w v : Window) (n : ℕ) → Sized w → mergingCall T w ≡ done v n → Kept T v
   pub runCalls : (w : Window) (budget : ℕ) (v : Ran) (n : ℕ) → Sized w → runCall T w budget ≡ done v n → Kept T (v .window)
@@ -50,11 +54,22 @@ module _ (T : Table) (S : Suited T) where
     pub kept-round : (bytes : List ℕ) → isRest (w .stage) ≡ true → Kept T (rounded T w bytes)
     kept-round bytes st = record { formed = round T w bytes S (k .formed) st; sized = round-sized T w bytes (S .room) (k .sized) }
 
+    pub kept-measuring : (bytes : List ℕ) → length bytes ≡ detectorsOf (w .shape .height) (w .shape .distance) → Kept T (measuring w bytes)
+    kept-measuring bytes long = record { formed = measure T w bytes long (k .formed); sized = measure-sized T w bytes long (k .formed) (k .sized) }
+
     pub kept-grow : Kept T (grown T w)
     kept-grow = record { formed = grow T w (k .formed); sized = grow-sized T w (S .room) (k .sized) }
 
     pub kept-merging : isMerging (w .stage) ≡ true → Kept T (merged T w)
     kept-merging st = record { formed = merging T w S (k .formed) st; sized = merging-sized T w (S .room) (k .sized) }
+
+  -- a round of raw measurements
+  pub kept-raw : (w : Window) → Kept T w → (bytes : List ℕ) → isRest (w .stage) ≡ true → length bytes ≡ detectorsOf (w .shape .height) (w .shape .distance)
+      → Kept T (measuring (rounded T w (differences (w .measured) bytes)) bytes)
+  unfolding rounded
+  kept-raw w k bytes st long =
+      let d = differences (w .measured) bytes in
+      kept-measuring (rounded T w d) (kept-round w k d st) bytes long
 
   pub kept-run : (w : Window) → Kept T w → (budget : ℕ) → isRest (w .stage) ≡ false → Kept T (ran T budget w .window)
   kept-run w k budget st = run-keeps T (Kept T) (λ v e i. kept-grow v i) (λ v e i. kept-merging v i e) budget w st k
@@ -67,9 +82,16 @@ module _ (T : Table) (S : Suited T) where
 
   module _ (w : Window) (s : Sized w) where
     round-done : (bytes edges escapes : List ℕ) (v : Round) (n : ℕ) → roundCall T w bytes edges escapes ≡ done v n → Kept T (v .window)
+    unfolding roundCall
     round-done bytes edges escapes v n e =
-        let x = accepted T w bytes edges escapes v n e in
+        let x = accepted T w bytes edges escapes (receiving T w bytes) v n e in
         subst (λ (r : Round). Kept T (r .window)) (x .value) (kept-round T S w (record { formed = x .formed; sized = s }) bytes (x .staged))
+
+    raw-done : (bytes edges escapes : List ℕ) (v : Round) (n : ℕ) → rawCall T w bytes edges escapes ≡ done v n → Kept T (v .window)
+    unfolding rawCall
+    raw-done bytes edges escapes v n e =
+        let x = accepted T w bytes edges escapes (receivingRaw T w bytes) v n e in
+        subst (λ (r : Round). Kept T (r .window)) (x .value) (kept-raw T S w (record { formed = x .formed; sized = s }) bytes (x .staged) (x .long))
 
     grow-done : (v : Window) (n : ℕ) → growCall T w ≡ done v n → Kept T v
     unfolding growCall
@@ -94,6 +116,7 @@ module _ (T : Table) (S : Suited T) where
       record {
         freshCalls = fresh-done;
         roundCalls = λ w bytes edges escapes v n s e. round-done w s bytes edges escapes v n e;
+        rawCalls = λ w bytes edges escapes v n s e. raw-done w s bytes edges escapes v n e;
         growCalls = λ w v n s e. grow-done w s v n e;
         mergingCalls = λ w v n s e. merging-done w s v n e;
         runCalls = λ w budget v n s e. run-done w s budget v n e;

@@ -3,6 +3,7 @@ use Prim.Native.Nat.{ℕ}
 use mathlib.Core.Path.{_≡_, refl, _∙_, ap}
 use mathlib.Core.Bool.{Bool, true}
 use mathlib.Core.List.{List, []}
+use borrow.Author.Tests.{eqb-true}
 use lib.Dec.{ltb, eqb}
 use lib.ListN.{length}
 use Rattle.refusal.specs.Answer.{Answer, done, ended, refused, refusedAt, unless}
@@ -16,8 +17,7 @@ use Rattle.shape.specs.declared.Shape.{Shape}
 use Rattle.window.specs.Window.{isRest}
 use Rattle.window.specs.Formed.{wellFormed}
 use Rattle.window.specs.Fresh.{freshWindow}
-use Rattle.window.specs.Round.{rounded, committedEdges, escapedDefects}
-use Rattle.window.specs.Calls.{leaves, Round, stateTests, freshCall, roundCall}
+use Rattle.window.specs.Calls.{leaves, Round, stateTests, roundBy, freshCall}
 use Rattle.window.specs.declared.Window.{Window}
 
 -- done or refused: what a call leaves of a window
@@ -58,15 +58,17 @@ staged T w stage a v n e =
 
 -- ROUND
 
-pub record Accepted (T : Table) (w : Window) (bytes : List ℕ) (r : Round) : Type 0 where
+-- plain or raw: v is what the call leaves where it is done
+pub record Accepted (T : Table) (w : Window) (bytes : List ℕ) (v r : Round) : Type 0 where
   pub formed : wellFormed T w ≡ true
   pub staged : isRest (w .stage) ≡ true
+  pub long : length bytes ≡ detectorsOf (w .shape .height) (w .shape .distance)
   pub bits : areBits bytes ≡ true
-  pub value : record { window = rounded T w bytes; edges = committedEdges T w; escapes = escapedDefects w } ≡ r
+  pub value : v ≡ r
 
-pub accepted : (T : Table) (w : Window) (bytes edges escapes : List ℕ) (r : Round) (n : ℕ) → roundCall T w bytes edges escapes ≡ done r n → Accepted T w bytes r
-unfolding roundCall
-accepted T w bytes edges escapes r n e =
+pub accepted : (T : Table) (w : Window) (bytes edges escapes : List ℕ) (v r : Round) (n : ℕ)
+    → roundBy T w v bytes edges escapes ≡ done r n → Accepted T w bytes v r
+accepted T w bytes edges escapes v r n e =
     let a = took (wellFormed T w) _ (refused 21) r n refl e in
     let b = took (isRest (w .stage)) _ (refused 22) r n refl (a .1) in
     let c = took (ltb (w .next) 4294967295) _ (refused 23) r n refl (b .1) in
@@ -74,4 +76,4 @@ accepted T w bytes edges escapes r n e =
     let f = took (eqb (length edges) (layerEdgesOf (w .shape .height) (w .shape .distance))) _ (refused 5) r n refl (d .1) in
     let g = took (eqb (length escapes) (detectorsOf (w .shape .height) (w .shape .distance))) _ (refused 6) r n refl (f .1) in
     let i = took (areBits bytes) _ (refused 4) r n refl (g .1) in
-    record { formed = a .0; staged = b .0; bits = i .0; value = tests-done [] (record { window = rounded T w bytes; edges = committedEdges T w; escapes = escapedDefects w }) r 0 n (i .1) }
+    record { formed = a .0; staged = b .0; long = eqb-true _ _ (d .0); bits = i .0; value = tests-done [] v r 0 n (i .1) }

@@ -8,7 +8,7 @@ use borrow.Author.Tests.{leb-true, le-leb, eqb-true, eq-eqb, not-true}
 use lib.Dec.{eqb}
 use lib.ListN.{getD, drop}
 use Rattle.shape.specs.Ranges.{Ranged, ranged, in-range, nodes-of, halves, both}
-use Rattle.shape.specs.Sizes.{sheetsOf, boundary, nodesIn, nodesOf}
+use Rattle.shape.specs.Sizes.{sheetsOf, boundary, nodesIn, nodesOf, detectorsOf}
 use Rattle.shape.specs.Nodes.{indexOf, numberOf, placeAt}
 use Rattle.shape.specs.LawsIndex.{index-lt, index-inside}
 use Rattle.shape.specs.LawsNumber.{numbered, number-lt}
@@ -112,6 +112,7 @@ pub record Facts (T : Table) (w : Window) : Type 0 where
   pub unusedNodes : all unusedNode (drop (size w) (w .nodes)) ≡ true
   pub unusedGrowth : all isEmpty (drop (T .kinds * size w) (w .growth)) ≡ true
   pub unusedCorrection : all not (drop (T .kinds * size w) (w .correction)) ≡ true
+  pub unusedMeasured : all not (drop (detectorsOf (w .shape .height) (w .shape .distance)) (w .measured)) ≡ true
 
 module _ (T : Table) (w : Window) where
   slot-at : (g kind : ℕ) → slotFitsAt T w g kind ≡ true
@@ -127,7 +128,8 @@ module _ (T : Table) (w : Window) where
   pub facts : wellFormed T w ≡ true → Facts T w
   unfolding wellFormed
   facts e =
-      let a = halves _ _ e in
+      let z = halves _ _ e in
+      let a = halves _ _ (z .0) in
       let b = halves _ _ (a .0) in
       let c = halves _ _ (b .0) in
       let f = halves _ _ (c .0) in
@@ -141,6 +143,7 @@ module _ (T : Table) (w : Window) where
         unusedNodes = c .1;
         unusedGrowth = b .1;
         unusedCorrection = a .1;
+        unusedMeasured = z .1;
       }
 
   pub formed : Facts T w → wellFormed T w ≡ true
@@ -150,9 +153,11 @@ module _ (T : Table) (w : Window) where
       (both _ _
       (both _ _
       (both _ _
+      (both _ _
       (both _ _ (both _ _ (in-range _ _ (f .ranged)) (le-leb _ _ (f .next)))
       (every-by (nodeFitsAt T w) (size w) (λ g l. fits-by T (w .stage) _ _ (place w g) (at w g) (f .nodes g l))))
       (every-by (λ i. every (T .kinds) (slotFitsAt T w i)) (size w) (λ g l. every-by (slotFitsAt T w g) (T .kinds) (λ kind m. slot-by g kind (f .slots g kind l m)))))
       (f .unusedNodes))
       (f .unusedGrowth))
-      (f .unusedCorrection)
+      (f .unusedCorrection))
+      (f .unusedMeasured)

@@ -5,18 +5,18 @@ use mathlib.Core.Path.{_≡_, refl, _∙_}
 use mathlib.Core.Bool.{Bool, true, false, _&&_, not}
 use borrow.Author.Tests.{lt-ltb}
 use lib.ListN.{replicate, length-replicate}
-use Rattle.shape.specs.Sizes.{boundary, inRange, nodesOf}
+use Rattle.shape.specs.Sizes.{boundary, inRange, nodesOf, detectorsOf}
 use Rattle.shape.specs.Ranges.{Ranged, ranged}
 use Rattle.shape.specs.Nodes.{numberOf, placeAt}
 use Rattle.steps.specs.Steps.{Table}
 use Rattle.shape.specs.declared.Shape.{Shape}
-use Rattle.window.specs.LawsLists.{length-over}
+use Rattle.window.specs.LawsLists.{length-over, getD-same}
 use Rattle.window.specs.Window.{alone, unused}
 use Rattle.window.specs.Fresh.{freshWindow}
 use Rattle.window.specs.Formed.{isEmpty, unusedNode, defectFits, wellFormed}
 use Rattle.window.specs.declared.Stage.{Stage}
 use Rattle.window.specs.declared.Stage.the-variants.{Rest}
-use Rattle.closure.specs.Lists.{all-over, all-drop, getD-same, other}
+use Rattle.closure.specs.Lists.{all-over, all-drop, other}
 use Rattle.closure.specs.Sized.{Sized, size-le}
 use Rattle.closure.specs.Facts.{own-lt, Fits, Slot, Facts, centre, formed}
 use Rattle.closure.specs.After.{fresh-at}
@@ -49,6 +49,7 @@ module _ (T : Table) (sh : Shape) (e : inRange (sh .height) (sh .distance) ≡ t
         unusedNodes = all-over unusedNode (λ i. alone (numberOf h d (placeAt h d i)) false) (nodesOf h d) (replicate 3600 unused) (all-drop unusedNode unused refl (nodesOf h d) 3600);
         unusedGrowth = all-drop {A = ℕ} isEmpty 0 refl (T .kinds * nodesOf h d) 10800;
         unusedCorrection = all-drop not false refl (T .kinds * nodesOf h d) 10800;
+        unusedMeasured = all-drop not false refl (detectorsOf h d) 210;
       }
 
   pub fresh : wellFormed T (freshWindow sh) ≡ true
@@ -64,4 +65,5 @@ fresh-sized sh =
       nodes = length-over (λ i. alone (numberOf h d (placeAt h d i)) false) (replicate 3600 unused) (nodesOf h d) (rw n (size-le (freshWindow sh))) ∙ n;
       growth = length-replicate {A = ℕ} 10800 0;
       correction = length-replicate 10800 false;
+      measured = length-replicate 210 false;
     }

@@ -73,6 +73,7 @@ module _ (T : Table) (w : Window) where
           unusedNodes = all-over unusedNode (grownNode T w) (size w) (w .nodes) (f .unusedNodes);
           unusedGrowth = all-over isEmpty (grownSlot T w) (T .kinds * size w) (w .growth) (f .unusedGrowth);
           unusedCorrection = f .unusedCorrection;
+          unusedMeasured = f .unusedMeasured;
         }
 
   pub grow : wellFormed T w ≡ true → wellFormed T (grown T w) ≡ true
@@ -80,4 +81,4 @@ module _ (T : Table) (w : Window) where
 
   pub grow-sized : T .kinds ≤ 3 → Sized w → Sized (grown T w)
   unfolding grown
-  grow-sized l s = record { nodes = nodes-over w s (grownNode T w); growth = growth-over w s (T .kinds) l (grownSlot T w); correction = s .correction }
+  grow-sized l s = record { nodes = nodes-over w s (grownNode T w); growth = growth-over w s (T .kinds) l (grownSlot T w); correction = s .correction; measured = s .measured }

@@ -10,6 +10,7 @@ pub mod Lower
 pub mod Scan
 pub mod Fresh
 pub mod Round
+pub mod Measured
 pub mod Grow
 pub mod Merging
 pub mod Run

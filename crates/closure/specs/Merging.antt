@@ -140,6 +140,7 @@ module _ (T : Table) (w : Window) where
           unusedNodes = all-over unusedNode (λ i. stepAt T w i .node) (size w) (w .nodes) (f .unusedNodes);
           unusedGrowth = f .unusedGrowth;
           unusedCorrection = all-over not (flippedSlot T w) (T .kinds * size w) (w .correction) (f .unusedCorrection);
+          unusedMeasured = f .unusedMeasured;
         }
 
   pub merging : Suited T → wellFormed T w ≡ true → isMerging (w .stage) ≡ true → wellFormed T (merged T w) ≡ true
@@ -147,7 +148,7 @@ module _ (T : Table) (w : Window) where
 
   pub merging-sized : T .kinds ≤ 3 → Sized w → Sized (merged T w)
   unfolding merged
-  merging-sized l s = record { nodes = nodes-over w s (λ i. stepAt T w i .node); growth = s .growth; correction = correction-over w s (T .kinds) l (flippedSlot T w) }
+  merging-sized l s = record { nodes = nodes-over w s (λ i. stepAt T w i .node); growth = s .growth; correction = correction-over w s (T .kinds) l (flippedSlot T w); measured = s .measured }
 
   -- a merging step ends in stage merging or at rest
   pub merging-stage : isRest (merged T w .stage) ≡ false → isMerging (merged T w .stage) ≡ true

@@ -129,6 +129,7 @@ module _ (T : Table) (S : Suited T) (w : Window) (bytes : List ℕ) (f : Facts T
         unusedNodes = all-over unusedNode (fallenNode w bytes) (size w) (w .nodes) (f .unusedNodes);
         unusedGrowth = all-over isEmpty (fallenSlot T w 0 (w .growth)) (T .kinds * size w) (w .growth) (f .unusedGrowth);
         unusedCorrection = all-over not (fallenSlot T w false (w .correction)) (T .kinds * size w) (w .correction) (f .unusedCorrection);
+        unusedMeasured = f .unusedMeasured;
       }
 
 module _ (T : Table) (w : Window) (bytes : List ℕ) where
@@ -142,4 +143,5 @@ module _ (T : Table) (w : Window) (bytes : List ℕ) where
         nodes = nodes-over w s (fallenNode w bytes);
         growth = growth-over w s (T .kinds) l (fallenSlot T w 0 (w .growth));
         correction = correction-over w s (T .kinds) l (fallenSlot T w false (w .correction));
+        measured = s .measured;
       }

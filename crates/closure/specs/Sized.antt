@@ -21,6 +21,7 @@ pub record Sized (w : Window) : Type 0 where
   pub nodes : length (w .nodes) ≡ 3600
   pub growth : length (w .growth) ≡ 10800
   pub correction : length (w .correction) ≡ 10800
+  pub measured : length (w .measured) ≡ 210
 
 module _ (w : Window) where
   pub size-le : size w ≤ 3600

@@ -1,6 +1,5 @@
 -- A round of the stream received and run: no call refuses it, and what leaves can be written. Assumes nothing.
-use Prim.Native.Nat.{ℕ, zero, suc, _-_, _≤_, _<_}
-use native.Mathlib.Omega.{arith}
+use Prim.Native.Nat.{ℕ, _-_, _<_}
 use mathlib.Core.Path.{_≡_, refl, _∙_, ap}
 use mathlib.Core.Bool.{Bool, true, false, not}
 use mathlib.Core.List.{List}
@@ -9,19 +8,18 @@ use lib.ListN.{length, getD, replicate, length-replicate}
 use Rattle.refusal.specs.Answer.{Answer, done, andThen}
 use Rattle.refusal.specs.Done.{goes-on}
 use Rattle.list.specs.Sheet.{areBits}
-use Rattle.list.specs.Laws.{bits-one}
 use Rattle.layers.specs.Layer.{edgeOf}
 use Rattle.shape.specs.Nodes.{indexOf}
 use Rattle.shape.specs.Sizes.{sheetsOf, detectorsOf, layerEdgesOf}
 use Rattle.steps.specs.Steps.{Table}
 use Rattle.record.specs.Records.{roundAt}
-use Rattle.window.specs.Lists.{from, byPlace, bit}
-use Rattle.window.specs.LawsLists.{length-by}
+use Rattle.window.specs.Lists.{byPlace, bit}
+use Rattle.window.specs.LawsLists.{length-by, bits-by}
 use Rattle.window.specs.Window.{isRest, at}
 use Rattle.window.specs.Formed.{wellFormed}
 use Rattle.window.specs.Round.{edgeSlot, detectorAt, rounded, committedEdges, escapedDefects}
 use Rattle.window.specs.Run.{ran}
-use Rattle.window.specs.Calls.{Round, roundTests, roundCall, stateTests, runCall}
+use Rattle.window.specs.Calls.{Round, receiving, roundTests, roundCall, stateTests, runCall}
 use Rattle.window.specs.declared.Ran.{Ran}
 use Rattle.window.specs.declared.Window.{Window}
 use Rattle.closure.specs.Round.{round}
@@ -41,15 +39,6 @@ module _ (w : Window) where
 
 -- WHAT LEAVES has its size, and each byte is 0 or 1
 
-bit-small : (b : Bool) → bit b ≤ 1
-bit-small true = omega arith
-bit-small false = omega arith
-
-bits-from : (f : ℕ → Bool) (i n : ℕ) → areBits (from i n (λ k. bit (f k))) ≡ true
-unfolding from areBits
-bits-from f i zero = refl
-bits-from f i (suc n) = bits-one (bit (f i)) (from (suc i) n (λ k. bit (f k))) (bit-small (f i)) ∙ bits-from f (suc i) n
-
 -- bytes by a rule of bits
 record Bits (n : ℕ) (xs : List ℕ) : Type 0 where
   rule : ℕ → Bool
@@ -60,8 +49,7 @@ module _ (n : ℕ) (xs : List ℕ) (b : Bits n xs) where
   bits-long = ap length (b .bytes) ∙ length-by _ n
 
   bits-fine : areBits xs ≡ true
-  unfolding byPlace
-  bits-fine = ap areBits (b .bytes) ∙ bits-from (b .rule) 0 n
+  bits-fine = ap areBits (b .bytes) ∙ bits-by (b .rule) n
 
 module _ (T : Table) (w : Window) where
   committed-by : Bits (edges w) (committedEdges T w)
@@ -94,9 +82,6 @@ module _ (w : Window) where
 -- THE ROUND
 
 module _ (T : Table) (w : Window) where
-  abbrev roundDone : List ℕ → Round
-  roundDone bytes = record { window = rounded T w bytes; edges = committedEdges T w; escapes = escapedDefects w }
-
   -- what is done with the round that was received, and with the bytes that were read
   abbrev pub onRan : Round → ℕ → Ran → ℕ → Answer Turn
   onRan r next v z = done (record { window = v .window; result = record { edges = r .edges; escapes = r .escapes; steps = v .count }; rest = v .rest }) next
@@ -114,12 +99,12 @@ module _ (T : Table) (w : Window) where
   module _ (S : Suited T) (formed : wellFormed T w ≡ true) (rest : isRest (w .stage) ≡ true) (next : w .next < 4294967295) (bytes : List ℕ)
       (long : length bytes ≡ detectors w) (bits : areBits bytes ≡ true) where
     -- no call refuses it
-    round-accepted : roundCall T w bytes (replicate {A = ℕ} (edges w) 0) (replicate {A = ℕ} (detectors w) 0) ≡ done (roundDone bytes) 0
+    round-accepted : roundCall T w bytes (replicate {A = ℕ} (edges w) 0) (replicate {A = ℕ} (detectors w) 0) ≡ done (receiving T w bytes) 0
     unfolding roundCall
     round-accepted =
         hold-pass (roundTests T w bytes (length (replicate {A = ℕ} (edges w) 0)) (length (replicate {A = ℕ} (detectors w) 0)))
         (formed, (rest, (lt-ltb _ _ next, (eq-eqb _ _ long, (eq-eqb _ _ (length-replicate {A = ℕ} (edges w) 0), (eq-eqb _ _ (length-replicate {A = ℕ} (detectors w) 0), (bits, tt)))))))
-        Round (done (roundDone bytes) 0)
+        Round (done (receiving T w bytes) 0)
 
     to-grow : not (isRest (rounded T w bytes .stage)) ≡ true
     unfolding rounded
@@ -133,7 +118,7 @@ module _ (T : Table) (w : Window) where
 
     pub turn-done : (s : List ℕ) (at behind : ℕ) → roundAt s (detectors w) at ≡ done bytes behind → turnAt T s w at ≡ done (turnOf T w bytes) behind
     turn-done s at behind e =
-        turn-steps s at ∙ goes-on onBytes e ∙ goes-on (onRound behind) round-accepted ∙ goes-on (onRan (roundDone bytes) behind) round-run
+        turn-steps s at ∙ goes-on onBytes e ∙ goes-on (onRound behind) round-accepted ∙ goes-on (onRan (receiving T w bytes) behind) round-run
 
   module _ (S : Suited T) (formed : wellFormed T w ≡ true) (rest : isRest (w .stage) ≡ true) (bytes : List ℕ) where
     pub turn-formed : wellFormed T (turnOf T w bytes .window) ≡ true

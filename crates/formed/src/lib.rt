@@ -67,5 +67,8 @@ pub fn well_formed(w: Window) -> bool
     if !unused::halves_unused(&w.growth, 3 * n) {
         return false;
     }
-    unused::bits_unused(&w.correction, 3 * n)
+    if !unused::bits_unused(&w.correction, 3 * n) {
+        return false;
+    }
+    unused::bits_unused(&w.measured, shape::detectors(shape))
 }

@@ -61,6 +61,6 @@ pub numbered-by : (sh : Shape) (g m : ℕ) (q : Place) (x : Node) → q ≡ plac
 numbered-by sh g m q x e f z = rw (z, f, e)
 
 pub fresh-by : (sh : Shape) (g s : ℕ) (nodes : List Node) → g ≡ nodesOf (sh .height) (sh .distance) → s ≡ sheetsOf (sh .distance) → nodes ≡ over g (numbering sh) (replicate 3600 unused)
-    → _≡_ {A = Window} (record { shape = sh; stage = Rest; next = s; nodes = nodes; growth = replicate {A = ℕ} 10800 0; correction = replicate 10800 false }) (freshWindow sh)
+    → _≡_ {A = Window} (record { shape = sh; stage = Rest; next = s; nodes = nodes; growth = replicate {A = ℕ} 10800 0; correction = replicate 10800 false; measured = replicate 210 false }) (freshWindow sh)
 unfolding freshWindow
 fresh-by sh g s nodes e f z = rw (z, e, f)

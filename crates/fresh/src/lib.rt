@@ -27,6 +27,7 @@ fn no_window() -> Window
         nodes: [window::alone(0, false); 3600],
         growth: [0; 10800],
         correction: [false; 10800],
+        measured: [false; 210],
     }
 }
 
@@ -54,6 +55,7 @@ fn fresh_window(shape: Shape) -> Window
         nodes,
         growth: [0; 10800],
         correction: [false; 10800],
+        measured: [false; 210],
     }
 }
 

@@ -58,6 +58,6 @@ three w g now a b c l e p q r =
 
 -- all of them
 pub finished : (w : Window) (g : ℕ) (nodes : List Node) (growth : List ℕ) → g ≡ size w → nodes ≡ over g (grownNode base w) (w .nodes) → growth ≡ over (3 * g) (grownSlot base w) (w .growth)
-    → _≡_ {A = Window} (record { shape = w .shape; stage = Merging; next = w .next; nodes = nodes; growth = growth; correction = w .correction }) (grown base w)
+    → _≡_ {A = Window} (record { shape = w .shape; stage = Merging; next = w .next; nodes = nodes; growth = growth; correction = w .correction; measured = w .measured }) (grown base w)
 unfolding grown base
 finished w g nodes growth z e f = rw (e, f, z)

@@ -61,6 +61,7 @@ pub fn grow(w: Window) -> Window
     let nodes = w.nodes;
     let growth = w.growth;
     let correction = w.correction;
+    let measured = w.measured;
     let mut v = Window {
         shape,
         stage: Stage::Merging,
@@ -68,6 +69,7 @@ pub fn grow(w: Window) -> Window
         nodes,
         growth,
         correction,
+        measured,
     };
     let mut next = Place {
         depth: 0,

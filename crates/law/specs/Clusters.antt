@@ -1,12 +1,15 @@
 -- THE REST CLAUSE: what holds of the clusters in each stage, and that the rules keep it. Assumes nothing.
+use Prim.Native.Nat.{ℕ}
 use mathlib.Core.Path.{_≡_, refl, sym}
 use mathlib.Core.Bool.{true, false}
+use mathlib.Core.List.{List}
 use Rattle.refusal.specs.Laws.{undone}
 use Rattle.steps.specs.Steps.{Table}
 use Rattle.shape.specs.declared.Shape.{Shape}
 use Rattle.window.specs.Window.{isRest, isToGrow, isMerging}
 use Rattle.window.specs.Fresh.{freshWindow}
 use Rattle.window.specs.Round.{rounded}
+use Rattle.window.specs.Measured.{measuring}
 use Rattle.window.specs.Grow.{grown}
 use Rattle.window.specs.Merging.{merged}
 use Rattle.window.specs.declared.Stage.{Stage}
@@ -18,7 +21,7 @@ use Rattle.closure.specs.Closure.{Kept}
 use Rattle.law.specs.Law.{Played, Rested, start}
 use Rattle.law.specs.Rules.{Invariant}
 use Rattle.law.specs.Graph.{graph, view, Inv, Calm}
-use Rattle.law.specs.Fallen.{Fallen}
+use Rattle.law.specs.Fallen.{Fallen, fallen-measured}
 use Rattle.law.specs.ClustersFresh.{fresh-calm}
 use Rattle.law.specs.ClustersRound.{round-fallen}
 use Rattle.law.specs.ClustersGrow.{grow-inv}
@@ -56,16 +59,23 @@ module _ (T : Table) (w : Window) where
   by-stage ToGrow c m i = absurd (undone (sym (m refl)))
   by-stage Merging c m i = i
 
+settled-measured : (T : Table) (w : Window) (bytes : List ℕ) (s : Stage) → Settled T w s → Settled T (measuring w bytes) s
+unfolding measuring
+settled-measured T w bytes Rest x = x
+settled-measured T w bytes ToGrow x = fallen-measured T w bytes x
+settled-measured T w bytes Merging x = x
+
 pub clustered-fresh : (T : Table) (sh : Shape) → Clustered T (start (freshWindow sh))
 unfolding freshWindow
 clustered-fresh T sh = fresh-calm T sh
 
 module _ (T : Table) (S : Suited T) where
   pub clustered : Invariant T (Clustered T)
-  unfolding rounded grown
+  unfolding rounded grown measuring
   clustered =
       record {
         round = λ p bytes k st bits i. round-fallen T S (p .window) bytes k (calm T (p .window) (p .window .stage) st i);
+        replace = λ p bytes i. settled-measured T (p .window) bytes (p .window .stage) i;
         grow = λ p k st i. grow-inv T (p .window) k (fallen T (p .window) (p .window .stage) st i);
         merging = λ p k st i.
             let h = held T (p .window) (p .window .stage) st i in

@@ -11,7 +11,7 @@ use Rattle.shape.specs.declared.Shape.{Shape}
 use Rattle.window.specs.Fresh.{freshWindow}
 use Rattle.window.specs.LawsLists.{and-no}
 use Rattle.window.specs.Window.{to}
-use Rattle.closure.specs.Lists.{getD-same}
+use Rattle.window.specs.LawsLists.{getD-same}
 use Rattle.closure.specs.After.{fresh-at}
 use Rattle.law.specs.Nodes.{actives, defects, pointers, marks}
 use Rattle.law.specs.Graph.{graph, view, Connected, same, over, Calm, here}

@@ -1,5 +1,6 @@
 -- THE CONSERVATION CLAUSE is kept by the rules. Assumes nothing.
 use Rattle.steps.specs.Steps.{Table}
+use Rattle.window.specs.Measured.{measuring}
 use Rattle.closure.specs.Suited.{Suited}
 use Rattle.closure.specs.Facts.{facts}
 use Rattle.law.specs.Law.{Conserved}
@@ -10,9 +11,11 @@ use Rattle.law.specs.ConservedRound.{conserved-round}
 use Rattle.law.specs.ConservedMerging.{conserved-merging}
 
 pub conserved : (T : Table) → Suited T → Layered T → Invariant T (Conserved T)
+unfolding measuring
 conserved T S L =
     record {
       round = λ p bytes k st bits c. conserved-round T S L p bytes (facts T (p .window) (k .formed) .ranged) bits c;
+      replace = λ p bytes c a i. c a (record { arrived = i .arrived; row = i .row; west = i .west; east = i .east });
       grow = λ p k st c. conserved-grow T p c;
       merging = λ p k st c. conserved-merging T S L p (facts T (p .window) (k .formed)) st c;
     }

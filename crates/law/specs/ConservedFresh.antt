@@ -14,7 +14,7 @@ use Rattle.shape.specs.declared.Shape.{Shape}
 use Rattle.window.specs.Lists.{bit, xor}
 use Rattle.window.specs.LawsLists.{and-no, and-not}
 use Rattle.window.specs.Fresh.{freshWindow}
-use Rattle.closure.specs.Lists.{getD-same}
+use Rattle.window.specs.LawsLists.{getD-same}
 use Rattle.closure.specs.After.{fresh-at}
 use Rattle.law.specs.Law.{Played, Spot, Detector, start, height, distance, sheets, last, inWindow, placeNow, standing, Conserved}
 use Rattle.law.specs.Nodes.{defects}

@@ -2,8 +2,10 @@
 use Prim.Native.Nat.{ℕ, _≤_, _<_}
 use mathlib.Core.Path.{_≡_}
 use mathlib.Core.Bool.{true, false}
+use mathlib.Core.List.{List}
 use Rattle.steps.specs.Steps.{Table}
 use Rattle.window.specs.Window.{size, at}
+use Rattle.window.specs.Measured.{measuring}
 use Rattle.window.specs.declared.Mark.the-variants.{Root}
 use Rattle.window.specs.declared.Window.{Window}
 use Rattle.closure.specs.After.{orphan}
@@ -30,3 +32,17 @@ module _ (T : Table) (w : Window) where
 
   abbrev pub Fallen : Type 0
   Fallen = (v : ℕ) → v < size w → Sunk v
+
+-- the last measured sheet is read by nothing here
+module _ (T : Table) (w : Window) (bytes : List ℕ) where
+  ends-measured : {v : ℕ} → Ends T w v → Ends T (measuring w bytes) v
+  unfolding measuring
+  ends-measured (centre e) = centre e
+  ends-measured (out e) = out e
+  ends-measured (via n e) = via n (ends-measured e)
+
+  pub fallen-measured : Fallen T w → Fallen T (measuring w bytes)
+  unfolding measuring
+  fallen-measured f v l =
+      let s = f v l in
+      record { number = s .number; mark = s .mark; most = s .most; own = s .own; rooted = s .rooted; opn = s .opn; across = s .across; ends = ends-measured (s .ends) }

@@ -1,4 +1,4 @@
--- DEMAND 3: what holds after every list of calls on a fresh window, refused calls among them. Assumes nothing.
+-- DEMAND 3: what holds after every list of calls on a fresh window, raw and refused calls among them. Assumes nothing.
 use Prim.Native.Nat.{ℕ, zero, suc, _+_, _-_, _*_, _%_, _≤_, _<_}
 use mathlib.Core.Path.{_≡_}
 use mathlib.Core.Bool.{Bool, true, false, _&&_, _||_}
@@ -16,7 +16,8 @@ use Rattle.shape.specs.declared.Place.{Place}
 use Rattle.window.specs.Lists.{bit}
 use Rattle.window.specs.Window.{isRest, reach, namer, size, present, at, place, detector, to}
 use Rattle.window.specs.Round.{edgeSlot}
-use Rattle.window.specs.Calls.{leaves, Round, windowOf, freshCall, roundCall, growCall, mergingCall, runCall}
+use Rattle.window.specs.Measured.{differences, asSheet}
+use Rattle.window.specs.Calls.{leaves, Round, windowOf, freshCall, roundCall, rawCall, growCall, mergingCall, runCall}
 use Rattle.window.specs.declared.Window.{Window}
 
 -- LISTS OF CALLS
@@ -24,46 +25,65 @@ use Rattle.window.specs.declared.Window.{Window}
 -- a call, with the bytes, the budget and the buffers that its caller brings
 pub data Call : Type 0 where
   round : (bytes edges escapes : List ℕ) → Call
+  raw : (bytes edges escapes : List ℕ) → Call
   grow : Call
   merging : Call
   run : (budget : ℕ) → Call
 
--- of a round call that is not refused: its bytes, and both buffers as they are when it returns
+-- of a round call that is not refused, plain or raw: the defects received, and both buffers as they are when it returns
 pub record Receipt : Type 0 where
-  pub bytes : List ℕ
+  pub defects : List ℕ
   pub edges : List ℕ
   pub escapes : List ℕ
 
--- the window after a list of calls, and the receipts of its round calls, the first one first
+-- the window after a list of calls; the receipts of its round calls, the first one first; and the bytes of its last raw call that was not
+-- refused, none if there was none
 pub record Played : Type 0 where
   pub window : Window
   pub receipts : List Receipt
+  pub lastRaw : List ℕ
 
 abbrev pub receiptOf : List ℕ → Round → Receipt
-receiptOf bytes r = record { bytes = bytes; edges = r .edges; escapes = r .escapes }
+receiptOf defects r = record { defects = defects; edges = r .edges; escapes = r .escapes }
 
 module _ (T : Table) where
   -- the window that a call returns
   abbrev pub returned : Window → Call → Window
   returned w (round bytes edges escapes) = leaves (roundCall T w bytes edges escapes) windowOf w .window
+  returned w (raw bytes edges escapes) = leaves (rawCall T w bytes edges escapes) windowOf w .window
   returned w grow = leaves (growCall T w) itself w .window
   returned w merging = leaves (mergingCall T w) itself w .window
   returned w (run budget) = leaves (runCall T w budget) (λ r. r .window) w .window
 
-  -- the receipt of a call, if it has one
+  -- The receipt of a call, if it has one. The defects received are the bytes of a plain call, and of a raw one the places where its bytes
+  -- differ from the last measured sheet
   abbrev pub receipted : Window → Call → List Receipt
   receipted w (round bytes edges escapes) = valueOr (roundCall T w bytes edges escapes) (λ r. receiptOf bytes r ∷ []) []
+  receipted w (raw bytes edges escapes) = valueOr (rawCall T w bytes edges escapes) (λ r. receiptOf (differences (w .measured) bytes) r ∷ []) []
   receipted w grow = []
   receipted w merging = []
   receipted w (run budget) = []
 
+  -- the bytes of the last raw call that was not refused: this one's, or the old ones
+  abbrev pub lastRawAfter : Window → List ℕ → Call → List ℕ
+  lastRawAfter w old (round bytes edges escapes) = old
+  lastRawAfter w old (raw bytes edges escapes) = valueOr (rawCall T w bytes edges escapes) (λ r. bytes) old
+  lastRawAfter w old grow = old
+  lastRawAfter w old merging = old
+  lastRawAfter w old (run budget) = old
+
+  -- one call more
+  abbrev pub called : Played → Call → Played
+  called p c =
+      record { window = returned (p .window) c; receipts = p .receipts ++ receipted (p .window) c; lastRaw = lastRawAfter (p .window) (p .lastRaw) c }
+
   -- each call gets the window as the last one returned it
   unfoldable pub play : Played → List Call → Played
   play p [] = p
-  play p (c ∷ cs) = play (record { window = returned (p .window) c; receipts = p .receipts ++ receipted (p .window) c }) cs
+  play p (c ∷ cs) = play (called p c) cs
 
 abbrev pub start : Window → Played
-start w = record { window = w; receipts = [] }
+start w = record { window = w; receipts = []; lastRaw = [] }
 
 -- DETECTORS AND EDGES, BY ROUND
 
@@ -96,7 +116,7 @@ sum (suc n) f = sum n f + f n
 
 -- past the last receipt there is nothing
 abbrev pub noReceipt : Receipt
-noReceipt = record { bytes = []; edges = []; escapes = [] }
+noReceipt = record { defects = []; edges = []; escapes = [] }
 
 module _ (p : Played) where
   abbrev pub height : ℕ
@@ -108,8 +128,8 @@ module _ (p : Played) where
   abbrev pub sheets : ℕ
   sheets = sheetsOf distance
 
-  -- Rounds 0 to b, b = s - 1, are received, empty; the first round call that is not refused receives round s, each later one the round
-  -- after. This is the last one received.
+  -- Rounds 0 to b, b = s - 1, are received, empty; the first round call that is not refused, plain or raw, receives round s, each later one
+  -- the round after. This is the last one received.
   abbrev pub last : ℕ
   last = sheets - 1 + length (p .receipts)
 
@@ -128,9 +148,9 @@ module _ (p : Played) where
   abbrev pub entry : Spot → ℕ
   entry a = a .row * (distance - 1) + (a .column - 1)
 
-  -- the defect received is its byte in the call that received the round, 0 in rounds 0 to b
+  -- the defect received is its byte in the receipt of the call that received the round, 0 in rounds 0 to b
   abbrev pub received : Spot → ℕ
-  received a = if (ltb (a .round) sheets) 0 (getD (receipt (a .round - sheets) .bytes) (entry a) 0)
+  received a = if (ltb (a .round) sheets) 0 (getD (receipt (a .round - sheets) .defects) (entry a) 0)
 
   -- committed is an edge of round n's layer whose byte the call that receives round n + s left 1 in the edge buffer
   abbrev pub committed : ℕ → ℕ → Bool
@@ -227,6 +247,8 @@ pub record Law (T : Table) (fresh : Window) (p : Played) : Type 0 where
   -- the shape is the fresh window's, and depth k holds round next - 1 - k
   pub shape : p .window .shape ≡ fresh .shape
   pub next : p .window .next ≡ last p + 1
+  -- the last measured sheet is the bytes of the last raw call that was not refused, all zero if there was none (in plain numbers: `PlainSheet`)
+  pub sheet : p .window .measured ≡ asSheet (p .lastRaw)
 
 -- of every fresh window, whatever list of calls it is given
 abbrev pub Demand3 : Table → Type 0

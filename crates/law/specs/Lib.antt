@@ -1,6 +1,7 @@
 -- the statement, its terms met by value, and what is to be shown of each rule
 pub mod Law
 pub mod Witness
+pub mod RawWitness
 pub mod Rules
 pub mod Play
 -- bits, sums, nodes and edges

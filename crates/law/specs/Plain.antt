@@ -1,11 +1,20 @@
--- The ends of an edge of the base table in plain numbers, to be read beside document 01. Assumes nothing.
-use Prim.Native.Nat.{ℕ, _+_}
+-- The ends of an edge of the base table, and a measured sheet, in plain numbers, to be read beside documents 01 and 02. Assumes nothing.
+use Prim.Native.Nat.{ℕ, _+_, _%_, _<_}
 use native.Mathlib.Omega.{arith}
-use mathlib.Core.Path.{_≡_, refl}
+use mathlib.Core.Path.{_≡_, refl, sym, _∙_, ap}
+use mathlib.Core.Bool.{Bool, true, false}
+use mathlib.Core.List.{List, []}
+use lib.Dec.{eqb}
+use lib.ListN.{length, getD, replicate}
+use Rattle.list.specs.Sheet.{areBits}
 use Rattle.steps.specs.Steps.{base}
 use Rattle.layers.specs.declared.Edge.{Edge}
+use Rattle.window.specs.Lists.{bit, xor}
 use Rattle.window.specs.Window.{naming}
+use Rattle.window.specs.Measured.{isSet, differences, asSheet}
+use Rattle.window.specs.LawsMeasured.{difference-at, sheet-none, sheet-at}
 use Rattle.law.specs.Law.{Spot, nearEnd, farEnd}
+use Rattle.law.specs.Bits.{bit-add, byte-bit}
 use Rattle.law.specs.Spots.{spot-by}
 
 -- an edge of a kind, named by the node in row r and column c
@@ -37,4 +46,25 @@ plain =
       column-far = λ n r c. spot-by (farEnd base n (edge 1 r c)) (spot n (r + 1) c) (omega arith) (omega arith) (omega arith);
       time-near = λ n r c. refl;
       time-far = λ n r c. spot-by (farEnd base n (edge 2 r c)) (spot (n + 1) r c) (omega arith) (omega arith) (omega arith);
+    }
+
+-- THE LAST MEASURED SHEET, and what a raw call receives
+pub record PlainSheet : Type 0 where
+  -- the sheet of no bytes is all zero
+  pub none : asSheet [] ≡ replicate 210 false
+  -- that of some is set where a byte is 1, and nowhere else
+  pub set : (bytes : List ℕ) (i : ℕ) → getD (asSheet bytes) i false ≡ eqb (getD bytes i 0) 1
+  -- after the bytes old, the bytes new receive their sum modulo 2: 1 where a check value has changed
+  pub change : (old new : List ℕ) (i : ℕ) → areBits old ≡ true → areBits new ≡ true → i < length new
+      → getD (differences (asSheet old) new) i 0 ≡ (getD new i 0 + getD old i 0) % 2
+
+pub plain-sheet : PlainSheet
+plain-sheet =
+    record {
+      none = sheet-none;
+      set = sheet-at;
+      change = λ old new i a b l.
+          difference-at (asSheet old) new i l
+          ∙ ap (λ (x : Bool). bit (xor (isSet new i) x)) (sheet-at old i)
+          ∙ sym (bit-add (getD new i 0) (getD old i 0) (isSet new i) (isSet old i) (byte-bit new b i) (byte-bit old a i));
     }

@@ -1,4 +1,4 @@
--- ROUND changes no defect of a round already received: those of the bottom sheet go to the escape buffer, and those of the new round are the bytes received. Assumes nothing.
+-- ROUND changes no defect of a round already received: those of the bottom sheet go to the escape buffer, and those of the new round are the defects received. Assumes nothing.
 use Prim.Native.Nat.{ℕ, _+_, _-_, _*_, _≤_, _<_}
 use native.Mathlib.Omega.{arith}
 use mathlib.Core.Path.{_≡_, refl, sym, _∙_, ap}
@@ -54,7 +54,7 @@ module _ (T : Table) (p : Played) (bytes : List ℕ) where
   old-received a high =
       ⊎-elim (λ x. if-true {A = ℕ} (ltb (a .round) s) 0 _ (lt-ltb _ _ x) ∙ sym (if-true {A = ℕ} (ltb (a .round) s) 0 _ (lt-ltb _ _ x)))
       (λ x. let m : a .round - s < count = omega arith in
-      ap (λ (y : Receipt). if (ltb (a .round) s) 0 (getD (y .bytes) (entry p a) 0)) (old-receipt T p bytes (a .round - s) m))
+      ap (λ (y : Receipt). if (ltb (a .round) s) 0 (getD (y .defects) (entry p a) 0)) (old-receipt T p bytes (a .round - s) m))
       (order (a .round) s)
 
   module _ (r : Ranged h d) where
@@ -65,7 +65,7 @@ module _ (T : Table) (p : Played) (bytes : List ℕ) where
         let x : s ≤ a .round = omega arith in
         let y : a .round - s ≡ count = omega arith in
         if-false {A = ℕ} (ltb (a .round) s) 0 _ (le-ltb _ _ x)
-        ∙ ap (λ (z : Receipt). getD (z .bytes) (entry p a) 0) (ap (λ (k : ℕ). receipt after k) y ∙ new-receipt T p bytes)
+        ∙ ap (λ (z : Receipt). getD (z .defects) (entry p a) 0) (ap (λ (k : ℕ). receipt after k) y ∙ new-receipt T p bytes)
 
     -- A DEFECT AFTER ROUND
 

@@ -1,7 +1,7 @@
 -- DEMAND 3 HOLDS: the law after every list of calls. Assumes nothing.
 use Prim.Native.Nat.{_+_}
 use native.Mathlib.Omega.{arith}
-use mathlib.Core.Path.{_≡_, refl, subst}
+use mathlib.Core.Path.{_≡_, refl, sym, subst}
 use mathlib.Core.List.{List}
 use mathlib.Core.Bool.{true}
 use Rattle.shape.specs.Sizes.{inRange}
@@ -9,6 +9,8 @@ use Rattle.steps.specs.Steps.{Table, base}
 use Rattle.shape.specs.declared.Shape.{Shape}
 use Rattle.window.specs.Fresh.{freshWindow}
 use Rattle.window.specs.Round.{rounded}
+use Rattle.window.specs.Measured.{asSheet, measuring}
+use Rattle.window.specs.LawsMeasured.{sheet-none}
 use Rattle.window.specs.Grow.{grown}
 use Rattle.window.specs.Merging.{merged}
 use Rattle.window.specs.declared.Window.{Window}
@@ -34,13 +36,26 @@ unfolding freshWindow
 counted-fresh sh = record { shape = refl; next = omega arith }
 
 counted : (T : Table) (sh : Shape) → Invariant T (Counted sh)
-unfolding rounded grown merged
+unfolding rounded grown merged measuring
 counted T sh =
     record {
       round = λ p bytes k st bits i. record { shape = i .shape; next = let n = i .next in let m = later T p bytes in omega arith };
+      replace = λ p bytes i. record { shape = i .shape; next = i .next };
       grow = λ p k st i. record { shape = i .shape; next = i .next };
       merging = λ p k st i. record { shape = i .shape; next = i .next };
     }
+
+-- the sheet is the bytes of the last raw call
+abbrev Sheet : Played → Type 0
+Sheet p = p .window .measured ≡ asSheet (p .lastRaw)
+
+sheet-fresh : (sh : Shape) → Sheet (start (freshWindow sh))
+unfolding freshWindow
+sheet-fresh sh = sym sheet-none
+
+sheet-kept : (T : Table) → Invariant T Sheet
+unfolding rounded grown merged measuring
+sheet-kept T = record { round = λ p defects k st bits i. i; replace = λ p bytes i. refl; grow = λ p k st i. i; merging = λ p k st i. i }
 
 module _ (T : Table) (S : Suited T) (L : Layered T) where
   pub law : (sh : Shape) → inRange (sh .height) (sh .distance) ≡ true → (calls : List Call) → Law T (freshWindow sh) (play T (start (freshWindow sh)) calls)
@@ -51,11 +66,13 @@ module _ (T : Table) (S : Suited T) (L : Layered T) where
       let a = playing T S (Conserved T) (conserved T S L) calls p k (conserved-fresh T sh e) in
       let b = playing T S (Clustered T) (clustered T S) calls p k (clustered-fresh T sh) in
       let c = playing T S (Counted sh) (counted T sh) calls p k (counted-fresh sh) in
+      let s = playing T S Sheet (sheet-kept T) calls p k (sheet-fresh sh) in
       record {
         conserved = a .1;
         rested = clustered-rested T S (play T p calls) (b .0) (b .1);
         shape = c .1 .shape;
         next = c .1 .next;
+        sheet = s .1;
       }
 
   pub holds : Demand3 T

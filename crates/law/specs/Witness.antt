@@ -18,6 +18,7 @@ use Rattle.window.specs.Fresh as fresh
 use Rattle.window.specs.Grow as grow
 use Rattle.window.specs.Lists as lists
 use Rattle.window.specs.Lists.{bit}
+use Rattle.window.specs.Measured as measured
 use Rattle.window.specs.Merging as merging
 use Rattle.window.specs.Round as round
 use Rattle.window.specs.Run as run
@@ -55,7 +56,7 @@ spot = record { round = 3; row = 0; column = 1 }
 
 -- THE TIE of document 01
 
-abbrev takes : ℕ → Call
+abbrev pub takes : ℕ → Call
 takes byte = law.round (byte ∷ []) (0 ∷ 0 ∷ 0 ∷ []) (0 ∷ [])
 
 -- empty rounds, each run to rest
@@ -63,7 +64,7 @@ unfoldable pub empties : ℕ → List Call
 empties zero = []
 empties (suc n) = takes 0 ∷ law.run 65536 ∷ empties n
 
-abbrev none : Window
+abbrev pub none : Window
 none = fresh.freshWindow (record { height = 1; distance = 2 })
 
 -- the round with the defect, then so many empty ones
@@ -77,20 +78,21 @@ abbrev fallen : Window
 fallen = round.rounded base (round.rounded base (round.rounded base none (1 ∷ [])) (0 ∷ [])) (0 ∷ [])
 
 abbrev empty : ℕ → Receipt
-empty byte = record { bytes = byte ∷ []; edges = 0 ∷ 0 ∷ 0 ∷ []; escapes = 0 ∷ [] }
+empty byte = record { defects = byte ∷ []; edges = 0 ∷ 0 ∷ 0 ∷ []; escapes = 0 ∷ [] }
 
 unfoldable pub ungrown : Played
 ungrown =
     record {
-      window = record { shape = fallen .shape; stage = Rest; next = fallen .next; nodes = fallen .nodes; growth = fallen .growth; correction = fallen .correction };
+      window = record { shape = fallen .shape; stage = Rest; next = fallen .next; nodes = fallen .nodes; growth = fallen .growth; correction = fallen .correction; measured = fallen .measured };
       receipts = empty 1 ∷ empty 0 ∷ empty 0 ∷ [];
+      lastRaw = [];
     }
 
 -- BY VALUE
 
 -- all the rules, for `unfolding`
 unfoldable pub opened : ℕ
-unfolding empties tie ungrown list.areBits nodes.indexOf nodes.placeAt nodes.numberOf nodes.placeOf steps.base steps.across steps.joined steps.near steps.slot layer.edgeOf lists.from lists.byPlace lists.every lists.any lists.all window.reach window.naming fresh.freshWindow formed.pointerFits formed.nodeFits formed.slotFitsAt formed.wellFormed round.committedEdges round.escapedDefects round.loweredNumber round.topNode round.fallenNode round.fallenSlot round.rounded grow.grownSlot grow.grownNode grow.grown merging.sees merging.syncedActive merging.arrivals merging.scan merging.floods merging.stepped merging.seen merging.stepAt merging.flippedSlot merging.merged run.stepsFrom run.ran calls.roundCall calls.runCall law.play law.sum
+unfolding empties tie ungrown list.areBits nodes.indexOf nodes.placeAt nodes.numberOf nodes.placeOf steps.base steps.across steps.joined steps.near steps.slot layer.edgeOf lists.from lists.byPlace lists.every lists.any lists.all window.reach window.naming fresh.freshWindow formed.pointerFits formed.nodeFits formed.slotFitsAt formed.wellFormed round.committedEdges round.escapedDefects round.loweredNumber round.topNode round.fallenNode round.fallenSlot round.rounded measured.differences measured.asSheet measured.measuring grow.grownSlot grow.grownNode grow.grown merging.sees merging.syncedActive merging.arrivals merging.scan merging.floods merging.stepped merging.seen merging.stepAt merging.flippedSlot merging.merged run.stepsFrom run.ran calls.roundCall calls.rawCall calls.runCall law.play law.sum
 opened = 0
 
 pub record Met : Type 0 where

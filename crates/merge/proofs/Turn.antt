@@ -82,7 +82,7 @@ pub merged-by :
     → busy ≡ any g (λ i. stepAt base w i .busy)
     → nodes ≡ over g (λ i. stepAt base w i .node) (w .nodes)
     → correction ≡ over (3 * g) (flippedSlot base w) (w .correction)
-    → _≡_ {A = Window} (record { shape = w .shape; stage = stage; next = w .next; nodes = nodes; growth = w .growth; correction = correction }) (merged base w)
+    → _≡_ {A = Window} (record { shape = w .shape; stage = stage; next = w .next; nodes = nodes; growth = w .growth; correction = correction; measured = w .measured }) (merged base w)
 unfolding merged
 merged-by w g stage busy nodes correction e s b n c =
     let k : correction ≡ over (base .kinds * g) (flippedSlot base w) (w .correction)

@@ -68,6 +68,7 @@ pub fn merge(w: Window) -> Window
         g += 1;
     }
     let growth = w.growth;
+    let measured = w.measured;
     Window {
         shape,
         stage: node::stage_after(busy),
@@ -75,5 +76,6 @@ pub fn merge(w: Window) -> Window
         nodes,
         growth,
         correction,
+        measured,
     }
 }

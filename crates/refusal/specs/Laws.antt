@@ -50,6 +50,20 @@ value-not ended of other e = refl
 value-not (refused n) of other e = refl
 value-not (refusedAt n at) of other e = refl
 
+-- a value that is the same, done or not
+pub value-same : {A B : Type 0} (a : Answer A) (x : B) → valueOr a (λ r. x) x ≡ x
+value-same (done a next) x = refl
+value-same ended x = refl
+value-same (refused n) x = refl
+value-same (refusedAt n at) x = refl
+
+-- and one that takes nothing from the answer
+pub value-without : {A B : Type 0} (a : Answer A) (x other : B) → valueOr (withoutValue a) (λ u. x) other ≡ valueOr a (λ r. x) other
+value-without (done a next) x other = refl
+value-without ended x other = refl
+value-without (refused n) x other = refl
+value-without (refusedAt n at) x other = refl
+
 -- WHAT CAME BEFORE, from an answer without its value
 
 -- a refusal is the same whatever was to come

@@ -1,10 +1,11 @@
 // Plays a script of calls on one window and says what each call answered, so that the calls can be held against another decoder.
 //
-// The script is text, at most 65,536 bytes: a command a line, by its first letter (`run` by its second too), then numbers in decimal.
+// The script is text, at most 65,536 bytes: a command a line, by its first letter (with `r` by its second too), then numbers in decimal.
 //
 //   open H D                 a fresh window; where it is refused, the one that the call gives
 //   round E S BYTES          a round: edge and escape buffers of E and S bytes (at most 1,024 and 256), each byte 7 before the call;
 //                            the slice's bytes as digits, one a byte (at most 256; none if the line ends)
+//   raw E S BYTES            a raw round, likewise: the bytes are measurements
 //   grow
 //   merging N                merging steps, at least one and at most N, up to one that is not busy
 //   run B                    a run with budget B
@@ -13,16 +14,19 @@
 //   next N
 //   entry I A D U P M        node I in the internal order: active, defect, unrooted (0 or 1), pointer, mark (65,536 or more: reset),
 //   halves I N               the growth at I,
-//   flip I B                 the correction bit at I.
+//   flip I B                 the correction bit at I,
+//   last I B                 the bit at I of the last measured sheet (I below 210; otherwise nothing).
 //   # ..                     is written as it stands.
 //
 // A line is written for each call and each edit: its name; `done`, `busy`, `rest`, of a run `rest` or `spent` and the count of steps, or
-// `refused` and the number; of a round the two buffers after the call, a digit a byte (`?` from 10 on); and a digest of the whole window.
+// `refused` and the number; of a round, raw or not, the two buffers after the call, a digit a byte (`?` from 10 on); a digest of all the
+// window but the last measured sheet; and that sheet's 210 bits as a binary number, the first one highest, modulo a prime, in decimal.
 use calls::Merged;
 use calls::Outcome;
 use libc::STDOUT_FILENO;
 use shape::Shape;
 use window::Called;
+use window::Given;
 use window::Mark;
 use window::Node;
 use window::Stage;
@@ -123,6 +127,21 @@ fn digest(w: Window) -> u64 {
     mix_correction(f, &w.correction)
 }
 
+// One binary digit more, modulo the same prime.
+fn append(sum: u64, set: bool) -> u64 {
+    ((sum % 36028797018963913) * 2 + one(set) % 2) % 36028797018963913
+}
+
+fn fold_measured(measured: &[bool; 210]) -> u64 {
+    let mut sum: u64 = 0;
+    let mut i: usize = 0;
+    while i < 210 {
+        sum = append(sum, measured[i]);
+        i += 1;
+    }
+    sum
+}
+
 // WHAT IS WRITTEN
 
 fn say(text: &[u8]) {
@@ -179,8 +198,10 @@ fn say_outcome(answer: Outcome) {
     }
 }
 
-fn say_digest(w: Window) {
+fn say_window(w: Window) {
     io::print_hex(STDOUT_FILENO, digest(w), 14);
+    say(b" ");
+    io::print_decimal(STDOUT_FILENO, fold_measured(&w.measured));
     say(b"\n");
 }
 
@@ -312,10 +333,19 @@ fn open(script: &[u8; 65536], from: usize) -> Window {
     given.window
 }
 
-fn receive(w: Window, bytes: &[u8], edges: &mut [u8], escapes: &mut [u8]) -> Window {
-    let given = calls::round(w, bytes, edges, escapes);
-    let answer = given.answer;
+// Says which round call it is, and makes it.
+fn either_round(w: Window, raw: bool, bytes: &[u8], edges: &mut [u8], escapes: &mut [u8]) -> Given {
+    if raw {
+        say(b"raw ");
+        return calls::raw_round(w, bytes, edges, escapes);
+    }
     say(b"round ");
+    calls::round(w, bytes, edges, escapes)
+}
+
+fn receive(w: Window, raw: bool, bytes: &[u8], edges: &mut [u8], escapes: &mut [u8]) -> Window {
+    let given = either_round(w, raw, bytes, edges, escapes);
+    let answer = given.answer;
     say_called(answer);
     say_buffer(edges);
     say_buffer(escapes);
@@ -335,7 +365,7 @@ fn escape_marks() -> [u8; 256]
     [7; 256]
 }
 
-fn round(script: &[u8; 65536], from: usize, w: Window) -> Window {
+fn round(script: &[u8; 65536], from: usize, raw: bool, w: Window) -> Window {
     let edges = number(script, from);
     let escapes = number(script, edges.at);
     let mut bytes = escape_marks();
@@ -347,6 +377,7 @@ fn round(script: &[u8; 65536], from: usize, w: Window) -> Window {
     let s = io::count(escapes.value as isize, &escape_buffer);
     receive(
         w,
+        raw,
         &bytes[..n],
         &mut edge_buffer[..e],
         &mut escape_buffer[..s],
@@ -374,7 +405,7 @@ fn merging(w: Window, most: u32) -> Window {
         }
         left -= 1;
         if 0 < left {
-            say_digest(window);
+            say_window(window);
         }
     }
     window
@@ -391,21 +422,13 @@ fn run(w: Window, budget: u32) -> Window {
 // THE EDITS
 
 fn set_shape(w: Window, height: u32, distance: u32) -> Window {
-    let stage = w.stage;
-    let nodes = w.nodes;
-    let growth = w.growth;
-    let correction = w.correction;
-    Window {
-        shape: Shape {
-            height: byte(height),
-            distance: byte(distance),
-        },
-        stage,
-        next: w.next,
-        nodes,
-        growth,
-        correction,
-    }
+    let mut v = w;
+    let shape = Shape {
+        height: byte(height),
+        distance: byte(distance),
+    };
+    v.shape = shape;
+    v
 }
 
 fn stage_of(code: u32) -> Stage {
@@ -421,6 +444,7 @@ fn set_stage(w: Window, code: u32) -> Window {
     let nodes = w.nodes;
     let growth = w.growth;
     let correction = w.correction;
+    let measured = w.measured;
     Window {
         shape,
         stage: stage_of(code),
@@ -428,23 +452,14 @@ fn set_stage(w: Window, code: u32) -> Window {
         nodes,
         growth,
         correction,
+        measured,
     }
 }
 
 fn set_next(w: Window, next: u32) -> Window {
-    let shape = w.shape;
-    let stage = w.stage;
-    let nodes = w.nodes;
-    let growth = w.growth;
-    let correction = w.correction;
-    Window {
-        shape,
-        stage,
-        next,
-        nodes,
-        growth,
-        correction,
-    }
+    let mut v = w;
+    v.next = next;
+    v
 }
 
 fn mark_of(code: u32) -> Mark {
@@ -471,60 +486,35 @@ fn node_of(script: &[u8; 65536], from: usize) -> Node {
 }
 
 fn set_node(w: Window, i: usize, node: Node) -> Window {
-    let shape = w.shape;
-    let stage = w.stage;
-    let mut nodes = w.nodes;
-    let growth = w.growth;
-    let correction = w.correction;
+    let mut v = w;
     if i < 3600 {
-        nodes[i] = node;
+        v.nodes[i] = node;
     }
-    Window {
-        shape,
-        stage,
-        next: w.next,
-        nodes,
-        growth,
-        correction,
-    }
+    v
 }
 
 fn set_halves(w: Window, i: usize, halves: u8) -> Window {
-    let shape = w.shape;
-    let stage = w.stage;
-    let nodes = w.nodes;
-    let mut growth = w.growth;
-    let correction = w.correction;
+    let mut v = w;
     if i < 10800 {
-        growth[i] = halves;
+        v.growth[i] = halves;
     }
-    Window {
-        shape,
-        stage,
-        next: w.next,
-        nodes,
-        growth,
-        correction,
-    }
+    v
 }
 
 fn set_bit(w: Window, i: usize, bit: bool) -> Window {
-    let shape = w.shape;
-    let stage = w.stage;
-    let nodes = w.nodes;
-    let growth = w.growth;
-    let mut correction = w.correction;
+    let mut v = w;
     if i < 10800 {
-        correction[i] = bit;
+        v.correction[i] = bit;
     }
-    Window {
-        shape,
-        stage,
-        next: w.next,
-        nodes,
-        growth,
-        correction,
+    v
+}
+
+fn set_measured(w: Window, i: usize, bit: bool) -> Window {
+    let mut v = w;
+    if i < 210 {
+        v.measured[i] = bit;
     }
+    v
 }
 
 // An edit by its letter.
@@ -539,6 +529,7 @@ fn edit(script: &[u8; 65536], from: usize, letter: u8, w: Window) -> Window {
         b'n' => set_next(w, first.value),
         b'e' => set_node(w, i, node_of(script, first.at)),
         b'h' => set_halves(w, i, byte(second.value)),
+        b'l' => set_measured(w, i, second.value == 1),
         _ => set_bit(w, i, second.value == 1),
     }
 }
@@ -556,11 +547,12 @@ fn command(script: &[u8; 65536], from: usize, letter: u8, w: Window) -> Window {
     match letter {
         b'o' => open(script, from),
         b'r' => {
-            if second(script, from) == b'u' {
+            let kind = second(script, from);
+            if kind == b'u' {
                 let budget = number(script, from);
                 return run(w, budget.value);
             }
-            round(script, from, w)
+            round(script, from, kind == b'a', w)
         }
         b'g' => grow(w),
         b'm' => {
@@ -591,7 +583,7 @@ fn line(script: &[u8; 65536], from: usize, letter: u8, w: Window) -> Window {
         return w;
     }
     let window = command(script, from, letter, w);
-    say_digest(window);
+    say_window(window);
     window
 }
 

@@ -1,4 +1,4 @@
-// Receiving a round: the window one sheet lower, with a new top sheet.
+// Receiving a round: what leaves goes to the buffers, and the window is one sheet lower, with a new top sheet.
 use shape::Place;
 use shape::Shape;
 use window::Mark;
@@ -9,11 +9,12 @@ ghost use mathlib.Core.Path.{_≡_};
 ghost use mathlib.Core.Bool.{true};
 ghost use Prim.Native.Nat.{_<_};
 ghost use lib.ListN.{length};
-ghost use Rattle.shape.specs.Sizes.{inRange, detectorsOf};
+ghost use Rattle.shape.specs.Sizes.{inRange, detectorsOf, layerEdgesOf};
 ghost use Rattle.steps.specs.Steps.{base};
 ghost use Rattle.walk.specs.Walk.{Stands};
 ghost use Rattle.slots.specs.Slots.{sheetNodes};
 ghost use Rattle.window.specs.Round.{loweredNumber, lowered, sunk, topNode, rounded};
+ghost use Rattle.window.specs.Calls.{asRound, receiving};
 
 // A mark's number, moved to the node below; one in the ghost sheet stays.
 fn lower(shape: Shape, m: u16) -> u16
@@ -85,7 +86,7 @@ fn sheet_nodes(shape: Shape) -> usize
 }
 
 // The window one sheet lower, with a new top sheet.
-pub fn sink(w: Window, bytes: &[u8]) -> Window
+fn sink(w: Window, bytes: &[u8]) -> Window
     requires { ⌜ w .next < 4294967295 ⌝ }
     requires { ⌜ length (now bytes) ≡ detectorsOf (w .shape .height) (w .shape .distance) ⌝ }
     ensures { λ r. ⌜ r ≡ rounded base w (now (bytes .entry)) ⌝ }
@@ -96,6 +97,7 @@ pub fn sink(w: Window, bytes: &[u8]) -> Window
     let nodes = w.nodes;
     let growth = w.growth;
     let correction = w.correction;
+    let measured = w.measured;
     let mut v = Window {
         shape,
         stage: Stage::ToGrow,
@@ -103,6 +105,7 @@ pub fn sink(w: Window, bytes: &[u8]) -> Window
         nodes,
         growth,
         correction,
+        measured,
     };
     let mut place = Place {
         depth: 0,
@@ -122,4 +125,18 @@ pub fn sink(w: Window, bytes: &[u8]) -> Window
     slots::sink_halves(&mut v.growth, &w.growth, sheet, n);
     slots::sink_bits(&mut v.correction, &w.correction, sheet, n);
     v
+}
+
+// A round received with these defects.
+pub fn round(w: Window, defects: &[u8], edges: &mut [u8], escapes: &mut [u8]) -> Window
+    requires { ⌜ inRange (w .shape .height) (w .shape .distance) ≡ true ⌝ }
+    requires { ⌜ w .next < 4294967295 ⌝ }
+    requires { ⌜ length (now defects) ≡ detectorsOf (w .shape .height) (w .shape .distance) ⌝ }
+    requires { ⌜ length (now edges) ≡ layerEdgesOf (w .shape .height) (w .shape .distance) ⌝ }
+    requires { ⌜ length (now escapes) ≡ detectorsOf (w .shape .height) (w .shape .distance) ⌝ }
+    ensures { λ r. ⌜ asRound r (now (edges .exit)) (now (escapes .exit)) ≡ receiving base w (now (defects .entry)) ⌝ }
+{
+    leaving::commit(w, edges);
+    leaving::escape(w, escapes);
+    sink(w, defects)
 }

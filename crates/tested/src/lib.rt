@@ -20,7 +20,7 @@ pub fn test_state(w: Window, staged: bool) -> Called
     Called::Done
 }
 
-// The tests of a round, 21 to 4, in the document's order.
+// The tests of both round calls, 21 to 4, in the document's order.
 pub fn test_round(w: Window, bytes: &[u8], edges: usize, escapes: usize) -> Called
     ensures { λ r. ⌜ callAnswer r ≡ unless (roundTests base w (now (bytes .entry)) edges escapes) (done tt 0) ⌝ }
 {

@@ -1,15 +1,14 @@
--- The front part of a local array, lent and back in its place. Assumes nothing.
+-- What leaves has room in its array, and fills its part. Assumes nothing.
 use Prim.Native.Nat.{ℕ, _≤_}
-use native.Mathlib.Omega.{arith}
 use mathlib.Core.Path.{_≡_, sym, _∙_, ap}
 use mathlib.Core.Bool.{true}
-use mathlib.Core.List.{List, _++_}
-use lib.ListN.{length, take, drop, length-append}
-use lib.Seq.{take-at}
+use mathlib.Core.List.{List}
+use lib.ListN.{length}
 use Rattle.shape.specs.LawsSizes.{detectors-le as detectors-most, layer-le}
 use Rattle.shape.specs.Ranges.{ranged}
 use Rattle.shape.specs.Sizes.{inRange, detectorsOf, layerEdgesOf}
 use Rattle.steps.specs.Steps.{base}
+use Rattle.window.specs.LawsLists.{Fills}
 use Rattle.window.specs.Round.{committedEdges, escapedDefects}
 use Rattle.window.specs.declared.Window.{Window}
 use Rattle.decoding.specs.LawsTurn.{detectors, edges, committed-long, escaped-long}
@@ -21,20 +20,6 @@ module _ (h d : ℕ) (range : inRange h d ≡ true) where
 
   pub edges-le : layerEdgesOf h d ≤ 631
   edges-le = layer-le h d (ranged h d range)
-
--- bytes that fill a part
-pub record Fills (m : ℕ) (new : List ℕ) : Type 0 where
-  pub long : length new ≡ m
-
-module _ {m : ℕ} {new : List ℕ} (f : Fills m new) (old : List ℕ) where
-  pub part-fits : m ≤ length (new ++ drop m old)
-  part-fits = omega (arith, f .long, length-append new (drop m old))
-
-  pub part-back : take m (new ++ drop m old) ≡ new
-  part-back = take-at new (drop m old) m (f .long)
-
-  pub part-long : length (take m (new ++ drop m old)) ≡ m
-  part-long = ap length part-back ∙ f .long
 
 -- what leaves fills its part
 module _ (w : Window) (m : ℕ) (new : List ℕ) where

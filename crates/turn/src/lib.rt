@@ -28,9 +28,7 @@ fn turn(w: Window, bytes: &[u8], edges: &mut [u8], escapes: &mut [u8]) -> Ran
     ensures { λ _. ⌜ now (edges .exit) ≡ committedEdges base w ⌝ }
     ensures { λ _. ⌜ now (escapes .exit) ≡ escapedDefects w ⌝ }
 {
-    leaving::commit(w, edges);
-    leaving::escape(w, escapes);
-    run::run(round::sink(w, bytes), 65536)
+    run::run(round::round(w, bytes, edges, escapes), 65536)
 }
 
 // Receives a round that was read, up to an offset, and writes its record from an offset on.

@@ -41,13 +41,13 @@ pub fn halves_unused(growth: &[u8], n: usize) -> bool
     unused
 }
 
-pub fn bits_unused(correction: &[bool], n: usize) -> bool
-    ensures { λ r. ⌜ r ≡ all not (drop n (now (correction .entry))) ⌝ }
+pub fn bits_unused(bits: &[bool], n: usize) -> bool
+    ensures { λ r. ⌜ r ≡ all not (drop n (now (bits .entry))) ⌝ }
 {
     let mut unused = true;
     let mut e = n;
-    while e < correction.len() {
-        unused = unused & !correction[e];
+    while e < bits.len() {
+        unused = unused & !bits[e];
         e += 1;
     }
     unused

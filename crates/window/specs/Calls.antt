@@ -12,6 +12,7 @@ use Rattle.window.specs.Window.{isRest, isToGrow, isMerging}
 use Rattle.window.specs.Fresh.{freshWindow}
 use Rattle.window.specs.Formed.{wellFormed}
 use Rattle.window.specs.Round.{rounded, committedEdges, escapedDefects}
+use Rattle.window.specs.Measured.{differences, measuring}
 use Rattle.window.specs.Grow.{grown}
 use Rattle.window.specs.Merging.{merged}
 use Rattle.window.specs.Run.{ran}
@@ -42,11 +43,14 @@ leaves a of w = given (withoutValue a) (valueOr a of w)
 unfoldable pub freshCall : ℕ → ℕ → Answer Window
 freshCall h d = andThen (shapeOf h d) (λ sh n. done (freshWindow sh) n)
 
--- what a round call leaves
+-- what a round call leaves, plain or raw
 pub record Round : Type 0 where
   pub window : Window
   pub edges : List ℕ
   pub escapes : List ℕ
+
+abbrev pub asRound : Window → List ℕ → List ℕ → Round
+asRound w edges escapes = record { window = w; edges = edges; escapes = escapes }
 
 abbrev pub windowOf : Round → Window
 windowOf r = r .window
@@ -62,7 +66,7 @@ module _ (T : Table) (w : Window) where
   abbrev pub stateTests : Bool → List (Bool × ℕ)
   stateTests stage = (wellFormed T w, 21) ∷ (stage, 22) ∷ []
 
-  -- 21, 22, 23, 3, 5, 6, 4; of the buffers their lengths
+  -- of both round calls: 21, 22, 23, 3, 5, 6, 4; of the buffers their lengths
   abbrev pub roundTests : List ℕ → ℕ → ℕ → List (Bool × ℕ)
   roundTests bytes edges escapes =
       (wellFormed T w, 21)
@@ -74,10 +78,25 @@ module _ (T : Table) (w : Window) where
       ∷ (areBits bytes, 4)
       ∷ []
 
+  -- a round received with these defects
+  abbrev pub receiving : List ℕ → Round
+  receiving defects = asRound (rounded T w defects) (committedEdges T w) (escapedDefects w)
+
+  -- raw measurements: the round is received with the places that differ from the last measured sheet; then the sheet is the bytes
+  abbrev pub receivingRaw : List ℕ → Round
+  receivingRaw bytes =
+      let r = receiving (differences (w .measured) bytes) in
+      asRound (measuring (r .window) bytes) (r .edges) (r .escapes)
+
+  -- a round call that leaves r where its tests pass
+  abbrev pub roundBy : Round → List ℕ → List ℕ → List ℕ → Answer Round
+  roundBy r bytes edges escapes = unless (roundTests bytes (length edges) (length escapes)) (done r 0)
+
   unfoldable pub roundCall : List ℕ → List ℕ → List ℕ → Answer Round
-  roundCall bytes edges escapes =
-      unless (roundTests bytes (length edges) (length escapes))
-      (done (record { window = rounded T w bytes; edges = committedEdges T w; escapes = escapedDefects w }) 0)
+  roundCall bytes edges escapes = roundBy (receiving bytes) bytes edges escapes
+
+  unfoldable pub rawCall : List ℕ → List ℕ → List ℕ → Answer Round
+  rawCall bytes edges escapes = roundBy (receivingRaw bytes) bytes edges escapes
 
   unfoldable pub growCall : Answer Window
   growCall = unless (stateTests (isToGrow (w .stage))) (done (grown T w) 0)

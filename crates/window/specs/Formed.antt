@@ -3,7 +3,7 @@ use Prim.Native.Nat.{ℕ, _+_, _*_}
 use mathlib.Core.Bool.{Bool, _&&_, _||_, not, false}
 use lib.Dec.{ltb, leb, eqb}
 use lib.ListN.{getD, drop}
-use Rattle.shape.specs.Sizes.{sheetsOf, boundary, inRange, nodesIn}
+use Rattle.shape.specs.Sizes.{sheetsOf, boundary, inRange, nodesIn, detectorsOf}
 use Rattle.steps.specs.Steps.{Table, falls}
 use Rattle.shape.specs.declared.Place.{Place}
 use Rattle.window.specs.Lists.{every, all}
@@ -69,3 +69,4 @@ module _ (T : Table) (w : Window) where
       && all unusedNode (drop (size w) (w .nodes))
       && all isEmpty (drop (T .kinds * size w) (w .growth))
       && all not (drop (T .kinds * size w) (w .correction))
+      && all not (drop (detectorsOf (w .shape .height) (w .shape .distance)) (w .measured))

@@ -10,7 +10,7 @@ use Rattle.window.specs.Window.{alone, unused}
 use Rattle.window.specs.declared.Stage.the-variants.{Rest}
 use Rattle.window.specs.declared.Window.{Window}
 
--- stage rest; each node its own cluster with mark its number and pointer C; everything else 0 or false; next round s
+-- stage rest; each node its own cluster with mark its number and pointer C; everything else 0 or false, the measured sheet too; next round s
 unfoldable pub freshWindow : Shape → Window
 freshWindow sh =
     record {
@@ -20,6 +20,7 @@ freshWindow sh =
       nodes = over (nodesOf (sh .height) (sh .distance)) (λ g. alone (numberOf (sh .height) (sh .distance) (placeAt (sh .height) (sh .distance) g)) false) (replicate 3600 unused);
       growth = replicate {A = ℕ} 10800 0;
       correction = replicate 10800 false;
+      measured = replicate 210 false;
     }
 
 -- what a refused call gives in its place: no shape, no round, nothing in it; no call takes it for a window
@@ -32,4 +33,5 @@ noWindow =
       nodes = replicate 3600 unused;
       growth = replicate {A = ℕ} 10800 0;
       correction = replicate 10800 false;
+      measured = replicate 210 false;
     }

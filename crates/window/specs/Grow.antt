@@ -40,4 +40,5 @@ module _ (T : Table) (w : Window) where
         nodes = over (size w) grownNode (w .nodes);
         growth = over (T .kinds * size w) grownSlot (w .growth);
         correction = w .correction;
+        measured = w .measured;
       }

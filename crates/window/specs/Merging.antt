@@ -126,4 +126,5 @@ module _ (T : Table) (w : Window) where
         nodes = over (size w) (λ g. stepAt g .node) (w .nodes);
         growth = w .growth;
         correction = over (T .kinds * size w) flippedSlot (w .correction);
+        measured = w .measured;
       }

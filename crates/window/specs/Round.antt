@@ -63,12 +63,12 @@ sunk h d n = record { active = n .active; defect = n .defect; unrooted = false; 
 
 -- the new top sheet is fresh but for the defects, one byte a detector, row by row
 unfoldable pub topNode : ℕ → ℕ → List ℕ → Place → Node
-topNode h d bytes q =
-    alone (numberOf h d q) (not (boundary d (q .column)) && eqb (getD bytes (q .row * (d - 1) + (q .column - 1)) 0) 1)
+topNode h d defects q =
+    alone (numberOf h d q) (not (boundary d (q .column)) && eqb (getD defects (q .row * (d - 1) + (q .column - 1)) 0) 1)
 
 unfoldable pub fallenNode : Window → List ℕ → ℕ → Node
-fallenNode w bytes g =
-    if (ltb g (sheet w)) (topNode (w .shape .height) (w .shape .distance) bytes (place w g))
+fallenNode w defects g =
+    if (ltb g (sheet w)) (topNode (w .shape .height) (w .shape .distance) defects (place w g))
     (sunk (w .shape .height) (w .shape .distance) (at w (g - sheet w)))
 
 -- an edge of the new top sheet: one of its own, or a down edge
@@ -80,13 +80,15 @@ unfoldable pub fallenSlot {ℓ} : {A : Type ℓ} → Table → Window → A → 
 fallenSlot T w zero old e =
     if (atTop T w (e / T .kinds) (namer T (e % T .kinds))) zero (getD old (e - T .kinds * sheet w) zero)
 
+-- the last measured sheet stays
 unfoldable pub rounded : Table → Window → List ℕ → Window
-rounded T w bytes =
+rounded T w defects =
     record {
       shape = w .shape;
       stage = ToGrow;
       next = w .next + 1;
-      nodes = over (size w) (fallenNode w bytes) (w .nodes);
+      nodes = over (size w) (fallenNode w defects) (w .nodes);
       growth = over (T .kinds * size w) (fallenSlot T w 0 (w .growth)) (w .growth);
       correction = over (T .kinds * size w) (fallenSlot T w false (w .correction)) (w .correction);
+      measured = w .measured;
     }

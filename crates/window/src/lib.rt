@@ -26,7 +26,8 @@ pub enum Stage {
     Merging,
 }
 
-// Nodes in the internal order; an edge's growth and correction at three times the index of the end that names it, plus its kind.
+// Nodes in the internal order; an edge's growth and correction at three times the index of the end that names it, plus its kind;
+// the last measured sheet, a bit a detector, row by row.
 pub struct Window {
     pub shape: Shape,
     pub stage: Stage,
@@ -34,6 +35,7 @@ pub struct Window {
     pub nodes: [Node; 3600],
     pub growth: [u8; 10800],
     pub correction: [bool; 10800],
+    pub measured: [bool; 210],
 }
 
 // What a step leads to: whether there is an edge, its slot, and the node at its other end.

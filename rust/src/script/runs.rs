@@ -54,7 +54,7 @@ impl Script {
             self.add(format!("open {height} {distance}"));
             for round in 0..rounds {
                 self.add(format!("run {}", random.number()));
-                self.noise(&mut random, percent);
+                self.noise("round", &mut random, percent);
                 self.run_to_rest(round % 10);
             }
         }
@@ -84,7 +84,7 @@ impl Script {
         if self.image().stage != Stage::Rest {
             let left = self.steps().expect("a session comes to rest");
             let answer = self.add(format!("run {left}"));
-            assert!(answer.starts_with(&format!("run rest {left} ")), "{answer}");
+            assert_eq!(answer, format!("run rest {left}\n"));
         }
     }
 

@@ -1,10 +1,10 @@
 -- `calls::round` meets its contract. Assumes nothing.
 use borrow.Author.Needs.{needs}
-use lib.ListN.{length}
+use Rattle.steps.specs.Steps.{base}
+use Rattle.window.specs.Calls.{receiving, roundCall}
+use Rattle.calls.proofs.Rounds.{asks, round-refused, round-done}
 use Rattle.calls.proofs.round.Statement.{statement}
 use Rattle.calls.proofs.round.Tie as tie
-use Rattle.tested.proofs.Round.{round-fine}
-use Rattle.calls.proofs.Rounds.{round-refused, round-done, formed-ranged}
 
 test-round-requires : tie.Need-test-round-requires
 test-round-requires c κs = search needs
@@ -13,19 +13,21 @@ enum-known-tested : tie.Need-enum-known-tested
 enum-known-tested c = search needs
 
 returns : tie.Need-returns
-returns c = round-refused (c .before .before .before .before .before .before .before .args .w) (c .before .before .before .before .before .before .before .args .bytes .now) (c .before .before .before .before .before .before .before .args .edges .now) (c .before .before .before .before .before .before .before .args .escapes .now) (c .before .before .before .test-round .result) (c .before .before .before .test-round .ensures) (c .before .tested .given .0 .0) (c .before .tested .given .1)
+unfolding roundCall
+returns c =
+    let t = c .before .before .before in
+    let a = t .before .before .before .before .args in
+    round-refused (a .w) (a .bytes .now) (a .edges .now) (a .escapes .now) (receiving base (a .w) (a .bytes .now)) (t .test-round .result) (t .test-round .ensures) (c .before .tested .given .0 .0) (c .before .tested .given .1)
 
 enum-told : tie.Need-enum-told
 enum-told c = search needs
 
-commit-requires : tie.Need-commit-requires
-commit-requires c κs = let f = round-fine (c .before .before .before .before .before .before .before .args .w) (c .before .before .before .before .before .before .before .args .bytes .now) (length (c .before .before .before .before .before .before .before .args .edges .now)) (length (c .before .before .before .before .before .before .before .args .escapes .now)) (c .before .before .before .test-round .result) (c .before .before .before .test-round .ensures) (c .before .enum-told .given .1) in (formed-ranged _ (f .formed), f .layer)
-
-escape-requires : tie.Need-escape-requires
-escape-requires c κs = let f = round-fine (c .before .before .before .before .before .before .before .before .before .before .before .args .w) (c .before .before .before .before .before .before .before .before .before .before .before .args .bytes .now) (length (c .before .before .before .before .before .before .before .before .before .before .before .args .edges .now)) (length (c .before .before .before .before .before .before .before .before .before .before .before .args .escapes .now)) (c .before .before .before .before .before .before .before .test-round .result) (c .before .before .before .before .before .before .before .test-round .ensures) (c .before .before .before .before .before .enum-told .given .1) in (formed-ranged _ (f .formed), f .bottom)
-
-sink-requires : tie.Need-sink-requires
-sink-requires c κs = let f = round-fine (c .before .before .before .before .before .before .before .before .before .before .before .before .before .before .args .w) (c .before .before .before .before .before .before .before .before .before .before .before .before .before .before .args .bytes .now) (length (c .before .before .before .before .before .before .before .before .before .before .before .before .before .before .args .edges .now)) (length (c .before .before .before .before .before .before .before .before .before .before .before .before .before .before .args .escapes .now)) (c .before .before .before .before .before .before .before .before .before .before .test-round .result) (c .before .before .before .before .before .before .before .before .before .before .test-round .ensures) (c .before .before .before .before .before .before .before .before .enum-told .given .1) in (f .next, f .sheet)
+round-requires : tie.Need-round-requires
+round-requires c κs =
+    let e = c .before .before in
+    let t = e .before .before in
+    let a = t .before .before .before .before .args in
+    asks (a .w) (a .bytes .now) (a .edges .now) (a .escapes .now) (t .test-round .result) (t .test-round .ensures) (e .enum-told .given .1) .asked
 
 same-length : tie.Need-same-length
 same-length c = search needs
@@ -34,7 +36,12 @@ same-length-2 : tie.Need-same-length-2
 same-length-2 c = search needs
 
 returns-2 : tie.Need-returns-2
-returns-2 c = rw (c .sink .ensures, c .before .before .before .escape .ensures, c .before .before .before .before .before .before .before .commit .ensures) (round-done (c .before .before .before .before .before .before .before .before .before .before .before .before .before .before .before .args .w) (c .before .before .before .before .before .before .before .before .before .before .before .before .before .before .before .args .bytes .now) (c .before .before .before .before .before .before .before .before .before .before .before .before .before .before .before .args .edges .now) (c .before .before .before .before .before .before .before .before .before .before .before .before .before .before .before .args .escapes .now) (c .before .before .before .before .before .before .before .before .before .before .before .test-round .result) (c .before .before .before .before .before .before .before .before .before .before .before .test-round .ensures) (c .before .before .before .before .before .before .before .before .before .enum-told .given .1))
+unfolding roundCall
+returns-2 c =
+    let e = c .before .before .before .before .before .before .before in
+    let t = e .before .before in
+    let a = t .before .before .before .before .args in
+    round-done (a .w) (a .bytes .now) (a .edges .now) (a .escapes .now) (receiving base (a .w) (a .bytes .now)) (t .test-round .result) (t .test-round .ensures) _ (e .enum-told .given .1) (c .before .before .before .before .round .ensures)
 
 pub round-spec : {M : Type 1} → statement M
 round-spec =
@@ -44,9 +51,7 @@ round-spec =
     enum-known-tested
     returns
     enum-told
-    commit-requires
-    escape-requires
-    sink-requires
+    round-requires
     same-length
     same-length-2
     returns-2)

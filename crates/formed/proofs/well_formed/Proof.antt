@@ -7,7 +7,7 @@ use borrow.Author.Needs.{needs}
 use borrow.Author.Tests.{le-leb, lt-leb, not-true, not-false}
 use lib.ListN.{drop}
 use lib.Dec.{leb}
-use Rattle.shape.specs.Sizes.{sheetsOf, inRange}
+use Rattle.shape.specs.Sizes.{sheetsOf, inRange, detectorsOf}
 use Rattle.steps.specs.Steps.{base}
 use Rattle.walk.specs.LawsWalk.{nodes-max}
 use Rattle.window.specs.declared.Window.{Window}
@@ -38,9 +38,15 @@ module _ (w : Window) where
   abbrev bitsEmpty : Bool
   bitsEmpty = all not (drop (3 * size w) (w .correction))
 
+  abbrev sheetEmpty : Bool
+  sheetEmpty = all not (drop (detectorsOf (w .shape .height) (w .shape .distance)) (w .measured))
+
   -- what is left after each of them
+  abbrev left5 : Bool
+  left5 = bitsEmpty && sheetEmpty
+
   abbrev left4 : Bool
-  left4 = growthEmpty && bitsEmpty
+  left4 = growthEmpty && left5
 
   abbrev left3 : Bool
   left3 = restEmpty && left4
@@ -51,18 +57,19 @@ module _ (w : Window) where
   abbrev left1 : Bool
   left1 = filled && left2
 
-regroup : (a b n s x y z : Bool) → a && b && n && s && x && y && z ≡ a && (b && ((n && s) && (x && (y && z))))
-regroup false b n s x y z = refl
-regroup true false n s x y z = refl
-regroup true true false s x y z = refl
-regroup true true true false x y z = refl
-regroup true true true true false y z = refl
-regroup true true true true true y z = refl
+regroup : (a b n s x y z m : Bool) → a && b && n && s && x && y && z && m ≡ a && (b && ((n && s) && (x && (y && (z && m)))))
+regroup false b n s x y z m = refl
+regroup true false n s x y z m = refl
+regroup true true false s x y z m = refl
+regroup true true true false x y z m = refl
+regroup true true true true false y z m = refl
+regroup true true true true true false z m = refl
+regroup true true true true true true z m = refl
 
 in-order : (w : Window) → wellFormed base w ≡ inShape w && left1 w
 unfolding wellFormed base
 in-order w =
-    regroup (inShape w) (filled w) (every (size w) (nodeFitsAt base w)) (every (size w) (λ g. every 3 (slotFitsAt base w g))) (restEmpty w) (growthEmpty w) (bitsEmpty w)
+    regroup (inShape w) (filled w) (every (size w) (nodeFitsAt base w)) (every (size w) (λ g. every 3 (slotFitsAt base w g))) (restEmpty w) (growthEmpty w) (bitsEmpty w) (sheetEmpty w)
 
 -- one test fails, or it passes and the others decide
 module _ (w : Window) (test others : Bool) (e : wellFormed base w ≡ test && others) where
@@ -98,11 +105,17 @@ past-rest c = pass (c .before .before .before .before .before .before .before .b
 growth-at : (c : tie.After-halves-unused) → c .halves-unused .result ≡ growthEmpty (c .before .before .before .before .before .before .before .before .before .before .before .before .before .before .args .t1)
 growth-at c = c .halves-unused .ensures ∙ ap (λ (n : ℕ). all isEmpty (drop (3 * n) (c .before .before .before .before .before .before .before .before .before .before .before .before .before .before .args .t1 .growth))) (c .before .before .before .before .before .before .nodes .ensures)
 
-past-growth : (c : tie.Else5) → let w = c .before .before .before .before .before .before .before .before .before .before .before .before .before .before .before .args .t1 in wellFormed base w ≡ bitsEmpty w
-past-growth c = pass (c .before .before .before .before .before .before .before .before .before .before .before .before .before .before .before .args .t1) (growthEmpty (c .before .before .before .before .before .before .before .before .before .before .before .before .before .before .before .args .t1)) (bitsEmpty (c .before .before .before .before .before .before .before .before .before .before .before .before .before .before .before .args .t1)) (past-rest (c .before .before .before .before .before)) (sym (growth-at (c .before)) ∙ not-false _ (c .if5 .left))
+past-growth : (c : tie.Else5) → let w = c .before .before .before .before .before .before .before .before .before .before .before .before .before .before .before .args .t1 in wellFormed base w ≡ left5 w
+past-growth c = pass (c .before .before .before .before .before .before .before .before .before .before .before .before .before .before .before .args .t1) (growthEmpty (c .before .before .before .before .before .before .before .before .before .before .before .before .before .before .before .args .t1)) (left5 (c .before .before .before .before .before .before .before .before .before .before .before .before .before .before .before .args .t1)) (past-rest (c .before .before .before .before .before)) (sym (growth-at (c .before)) ∙ not-false _ (c .if5 .left))
 
 bits-at : (c : tie.After-bits-unused) → c .bits-unused .result ≡ bitsEmpty (c .before .before .before .before .before .before .before .before .before .before .before .before .before .before .before .before .before .before .before .args .t1)
 bits-at c = c .bits-unused .ensures ∙ ap (λ (n : ℕ). all not (drop (3 * n) (c .before .before .before .before .before .before .before .before .before .before .before .before .before .before .before .before .before .before .before .args .t1 .correction))) (c .before .before .before .before .before .before .before .before .before .before .before .nodes .ensures)
+
+past-bits : (c : tie.Else6) → let w = c .before .before .before .before .before .before .before .before .before .before .before .before .before .before .before .before .before .before .before .before .args .t1 in wellFormed base w ≡ sheetEmpty w
+past-bits c = let w = c .before .before .before .before .before .before .before .before .before .before .before .before .before .before .before .before .before .before .before .before .args .t1 in pass w (bitsEmpty w) (sheetEmpty w) (past-growth (c .before .before .before .before .before)) (sym (bits-at (c .before)) ∙ not-false _ (c .if6 .left))
+
+sheet-at : (c : tie.After-bits-unused2) → c .bits-unused2 .result ≡ sheetEmpty (c .before .before .before .before .before .before .before .before .before .before .before .before .before .before .before .before .before .before .before .before .before .before .before .before .before .args .t1)
+sheet-at c = c .bits-unused2 .ensures ∙ ap (λ (n : ℕ). all not (drop n (c .before .before .before .before .before .before .before .before .before .before .before .before .before .before .before .before .before .before .before .before .before .before .before .before .before .args .t1 .measured))) (c .before .detectors .ensures)
 
 ranged-requires : tie.Need-ranged-requires
 ranged-requires c κs = search needs
@@ -141,7 +154,7 @@ halves-unused-requires : tie.Need-halves-unused-requires
 halves-unused-requires c κs = search needs
 
 returns-5 : tie.Need-returns-5
-returns-5 c = stop (c .before .before .before .before .before .before .before .before .before .before .before .before .before .before .before .args .t1) (growthEmpty (c .before .before .before .before .before .before .before .before .before .before .before .before .before .before .before .args .t1)) (bitsEmpty (c .before .before .before .before .before .before .before .before .before .before .before .before .before .before .before .args .t1)) (past-rest (c .before .before .before .before .before)) (sym (growth-at (c .before)) ∙ not-true _ (c .if5 .taken))
+returns-5 c = stop (c .before .before .before .before .before .before .before .before .before .before .before .before .before .before .before .args .t1) (growthEmpty (c .before .before .before .before .before .before .before .before .before .before .before .before .before .before .before .args .t1)) (left5 (c .before .before .before .before .before .before .before .before .before .before .before .before .before .before .before .args .t1)) (past-rest (c .before .before .before .before .before)) (sym (growth-at (c .before)) ∙ not-true _ (c .if5 .taken))
 
 mul-bits-unused : tie.Need-mul-bits-unused
 mul-bits-unused c = omega (arith, c .before .before .before .before .before .before .before .before .before .before .nodes .ensures, nodes-max (c .before .before .before .before .before .before .before .before .before .before .before .before .before .before .before .before .before .before .args .t1 .shape .height) (c .before .before .before .before .before .before .before .before .before .before .before .before .before .before .before .before .before .before .args .t1 .shape .distance))
@@ -150,7 +163,16 @@ bits-unused-requires : tie.Need-bits-unused-requires
 bits-unused-requires c κs = search needs
 
 returns-6 : tie.Need-returns-6
-returns-6 c = bits-at c ∙ sym (past-growth (c .before .before .before .before))
+returns-6 c = let w = c .before .before .before .before .before .before .before .before .before .before .before .before .before .before .before .before .before .before .before .before .args .t1 in stop w (bitsEmpty w) (sheetEmpty w) (past-growth (c .before .before .before .before .before)) (sym (bits-at (c .before)) ∙ not-true _ (c .if6 .taken))
+
+detectors-requires : tie.Need-detectors-requires
+detectors-requires c κs = search needs
+
+bits-unused-requires-2 : tie.Need-bits-unused-requires-2
+bits-unused-requires-2 c κs = search needs
+
+returns-7 : tie.Need-returns-7
+returns-7 c = sheet-at c ∙ sym (past-bits (c .before .before .before .before .before))
 
 pub well-formed-spec : {M : Type 1} → statement M
 well-formed-spec =
@@ -171,4 +193,7 @@ well-formed-spec =
     returns-5
     mul-bits-unused
     bits-unused-requires
-    returns-6)
+    returns-6
+    detectors-requires
+    bits-unused-requires-2
+    returns-7)

@@ -24,7 +24,7 @@ use Rattle.grow.proofs.grow.Tie as tie
 
 abbrev growing : Window → List Node → List ℕ → Window
 growing w nodes growth =
-    record { shape = w .shape; stage = Merging; next = w .next; nodes = nodes; growth = growth; correction = w .correction }
+    record { shape = w .shape; stage = Merging; next = w .next; nodes = nodes; growth = growth; correction = w .correction; measured = w .measured }
 
 -- the nodes before g and their slots are as they shall be
 abbrev Grown : Window → Window → ℕ → Type 0
@@ -39,7 +39,7 @@ module _ (w v : Window) (g : ℕ) (so-far : Grown w v g) (x : Node) (e : x ≡ g
 
   grows : (a b c : ℕ) → 3 * g + 2 < length (w .growth)
       → a ≡ grownSlot base w (3 * g) → b ≡ grownSlot base w (3 * g + 1) → c ≡ grownSlot base w (3 * g + 2)
-      → Grown w (record { shape = v .shape; stage = v .stage; next = v .next; nodes = set (v .nodes) g x; growth = set (set (set (v .growth) (3 * g) a) (3 * g + 1) b) (3 * g + 2) c; correction = v .correction }) (g + 1)
+      → Grown w (record { shape = v .shape; stage = v .stage; next = v .next; nodes = set (v .nodes) g x; growth = set (set (set (v .growth) (3 * g) a) (3 * g + 1) b) (3 * g + 2) c; correction = v .correction; measured = v .measured }) (g + 1)
   grows a b c f p q r =
       let t = three w g (over (3 * g) (grownSlot base w) (w .growth)) a b c f refl p q r in
       rw so-far (ap (λ (m : List Node). growing w m (set (set (set (over (3 * g) (grownSlot base w) (w .growth)) (3 * g) a) (3 * g + 1) b) (3 * g + 2) c)) nodes-next ∙ ap (growing w (over (g + 1) (grownNode base w) (w .nodes))) t)
@@ -69,20 +69,20 @@ halves c = simp length-map at (c .good .0 .1 .1 .1 .1 .1 .1 .0 .1 .0 .1)
 
 -- the node of this turn
 module _ (c : tie.In-loop Inv-loop μ-loop) where
-  here : Stands (c .before .before .before .before .before .before .before .before .before .args .t1 .shape .height) (c .before .before .before .before .before .before .before .before .before .args .t1 .shape .distance) (c .before .loop .next) (c .before .loop .count)
-  here = stands-at _ _ _ _ _ (c .before .before .before .before .before .before .before .nodes .ensures) (c .loop-test .taken) (c .before .loop .inv .1)
+  here : Stands (c .before .before .before .before .before .before .before .before .before .before .args .t1 .shape .height) (c .before .before .before .before .before .before .before .before .before .before .args .t1 .shape .distance) (c .before .loop .next) (c .before .loop .count)
+  here = stands-at _ _ _ _ _ (c .before .before .before .before .before .before .before .before .nodes .ensures) (c .loop-test .taken) (c .before .loop .inv .1)
 
   low : c .before .loop .count < 3600
   low = stands-low _ _ _ _ here
 
-  placed : c .before .loop .next ≡ placeAt (c .before .before .before .before .before .before .before .before .before .args .t1 .shape .height) (c .before .before .before .before .before .before .before .before .before .args .t1 .shape .distance) (c .before .loop .count)
+  placed : c .before .loop .next ≡ placeAt (c .before .before .before .before .before .before .before .before .before .before .args .t1 .shape .height) (c .before .before .before .before .before .before .before .before .before .before .args .t1 .shape .distance) (c .before .loop .count)
   placed = c .before .loop .inv .1 (here .ranged .h1)
 
-  in-nodes : c .before .loop .count < length (c .before .before .before .before .before .before .before .before .before .args .t1 .nodes)
-  in-nodes = omega (arith, low, long (c .before .before .before .before .before .before .before .before .before))
+  in-nodes : c .before .loop .count < length (c .before .before .before .before .before .before .before .before .before .before .args .t1 .nodes)
+  in-nodes = omega (arith, low, long (c .before .before .before .before .before .before .before .before .before .before))
 
-  in-growth : 3 * c .before .loop .count + 2 < length (c .before .before .before .before .before .before .before .before .before .args .t1 .growth)
-  in-growth = omega (arith, low, halves (c .before .before .before .before .before .before .before .before .before))
+  in-growth : 3 * c .before .loop .count + 2 < length (c .before .before .before .before .before .before .before .before .before .before .args .t1 .growth)
+  in-growth = omega (arith, low, halves (c .before .before .before .before .before .before .before .before .before .before))
 
 nodes-requires : tie.Need-nodes-requires Inv-loop μ-loop
 nodes-requires c κs = search needs
@@ -100,7 +100,7 @@ mul-sheet : tie.Need-mul-sheet Inv-loop μ-loop
 mul-sheet c = let s = c .before .before .before .before .args .t1 .shape in let a : s .height ≤ 255 = omega (arith, c .struct-known2 .given) in let b : s .distance + 1 ≤ 256 = omega (arith, c .before .struct-known .given) in omega (arith, mul-le-mul {n₂ = 255} {m₂ = 256} a b)
 
 loop-holds : tie.Need-loop-holds Inv-loop μ-loop
-loop-holds c = let w = c .before .before .before .before .before .before .before .args .t1 in (omega arith, first-place (w .shape .height) (w .shape .distance), starts w)
+loop-holds c = let w = c .before .before .before .before .before .before .before .before .args .t1 in (omega arith, first-place (w .shape .height) (w .shape .distance), starts w)
 
 add-count : tie.Need-add-count Inv-loop μ-loop
 add-count c = omega (arith, low (c))
@@ -124,7 +124,7 @@ within-requires : tie.Need-within-requires Inv-loop μ-loop
 within-requires c κs = search needs
 
 add-within-2 : tie.Need-add-within-2 Inv-loop μ-loop
-add-within-2 c = omega (arith, low (c .before .before .before), c .before .before .before .before .before .before .before .before .before .struct-known .given)
+add-within-2 c = omega (arith, low (c .before .before .before), c .before .before .before .before .before .before .before .before .before .before .struct-known .given)
 
 within-requires-2 : tie.Need-within-requires-2 Inv-loop μ-loop
 within-requires-2 c κs = search needs
@@ -169,7 +169,7 @@ loop-less : tie.Need-loop-less Inv-loop μ-loop
 loop-less c = omega (arith, c .before .before .before .before .before .before .before .before .before .before .before .before .before .before .before .before .before .loop-test .taken)
 
 loop-again : tie.Need-loop-again Inv-loop μ-loop
-loop-again c = (omega (arith, c .before .before .before .before .before .before .before .before .before .before .before .before .before .before .before .before .before .loop-test .taken), walks-on (c .before .before .before .before .before .before .before .before .before .before .before .before .before .before .before .before .before .before .before .before .before .before .before .before .before .before .args .t1 .shape .height) (c .before .before .before .before .before .before .before .before .before .before .before .before .before .before .before .before .before .before .before .before .before .before .before .before .before .before .args .t1 .shape .distance) _ _ _ (c .before .before .before .before .before .before .before .before .before .before .before .before .before .before .before .before .before .before .loop .inv .1) (c .before .before .before .before .before .before .before .before .before .before .before .before .before .before .before .before .next-place .ensures), skips (c .before .before .before .before .before .before .before .before .before .before .before .before .before .before .before .before .before .before .before .before .before .before .before .before .before .before .args .t1) (c .before .before .before .before .before .before .before .before .before .before .before .before .before .before .before .before .before .before .loop .v) _ (c .before .before .before .before .before .before .before .before .before .before .before .before .before .before .before .before .before .before .loop .inv .2) (in-nodes (c .before .before .before .before .before .before .before .before .before .before .before .before .before .before .before .before .before)) (quiet (c .before .before .before .before .before .before .before .before .before .before .before .before .before .before .before .before .before .before .before .before .before .before .before .before .before .before .args .t1) _ _ _ _ _ (here (c .before .before .before .before .before .before .before .before .before .before .before .before .before .before .before .before .before)) (placed (c .before .before .before .before .before .before .before .before .before .before .before .before .before .before .before .before .before)) (c .before .before .before .before .before .before .before .before .before .before .before .before .before .before .within .ensures .1) (c .before .before .before .before .before .before .before .before .before .before .before .before .before .within2 .ensures .1) (c .before .before .before .before .before .before .before .before .before .before .before .before .above .ensures) (c .if1 .taken) (in-growth (c .before .before .before .before .before .before .before .before .before .before .before .before .before .before .before .before .before))))
+loop-again c = (omega (arith, c .before .before .before .before .before .before .before .before .before .before .before .before .before .before .before .before .before .loop-test .taken), walks-on (c .before .before .before .before .before .before .before .before .before .before .before .before .before .before .before .before .before .before .before .before .before .before .before .before .before .before .before .args .t1 .shape .height) (c .before .before .before .before .before .before .before .before .before .before .before .before .before .before .before .before .before .before .before .before .before .before .before .before .before .before .before .args .t1 .shape .distance) _ _ _ (c .before .before .before .before .before .before .before .before .before .before .before .before .before .before .before .before .before .before .loop .inv .1) (c .before .before .before .before .before .before .before .before .before .before .before .before .before .before .before .before .next-place .ensures), skips (c .before .before .before .before .before .before .before .before .before .before .before .before .before .before .before .before .before .before .before .before .before .before .before .before .before .before .before .args .t1) (c .before .before .before .before .before .before .before .before .before .before .before .before .before .before .before .before .before .before .loop .v) _ (c .before .before .before .before .before .before .before .before .before .before .before .before .before .before .before .before .before .before .loop .inv .2) (in-nodes (c .before .before .before .before .before .before .before .before .before .before .before .before .before .before .before .before .before)) (quiet (c .before .before .before .before .before .before .before .before .before .before .before .before .before .before .before .before .before .before .before .before .before .before .before .before .before .before .before .args .t1) _ _ _ _ _ (here (c .before .before .before .before .before .before .before .before .before .before .before .before .before .before .before .before .before)) (placed (c .before .before .before .before .before .before .before .before .before .before .before .before .before .before .before .before .before)) (c .before .before .before .before .before .before .before .before .before .before .before .before .before .before .within .ensures .1) (c .before .before .before .before .before .before .before .before .before .before .before .before .before .within2 .ensures .1) (c .before .before .before .before .before .before .before .before .before .before .before .before .above .ensures) (c .if1 .taken) (in-growth (c .before .before .before .before .before .before .before .before .before .before .before .before .before .before .before .before .before))))
 
 cut-down-requires : tie.Need-cut-down-requires Inv-loop μ-loop
 cut-down-requires c κs = search needs
@@ -250,10 +250,10 @@ loop-less-2 : tie.Need-loop-less-2 Inv-loop μ-loop
 loop-less-2 c = omega (arith, c .before .before .before .before .before .before .before .before .before .before .before .before .before .before .before .before .before .before .before .before .before .before .before .before .before .before .before .before .before .before .loop-test .taken)
 
 loop-again-2 : tie.Need-loop-again-2 Inv-loop μ-loop
-loop-again-2 c = (omega (arith, c .before .before .before .before .before .before .before .before .before .before .before .before .before .before .before .before .before .before .before .before .before .before .before .before .before .before .before .before .before .before .loop-test .taken), walks-on (c .before .before .before .before .before .before .before .before .before .before .before .before .before .before .before .before .before .before .before .before .before .before .before .before .before .before .before .before .before .before .before .before .before .before .before .before .before .before .before .args .t1 .shape .height) (c .before .before .before .before .before .before .before .before .before .before .before .before .before .before .before .before .before .before .before .before .before .before .before .before .before .before .before .before .before .before .before .before .before .before .before .before .before .before .before .args .t1 .shape .distance) _ _ _ (c .before .before .before .before .before .before .before .before .before .before .before .before .before .before .before .before .before .before .before .before .before .before .before .before .before .before .before .before .before .before .before .loop .inv .1) (c .before .before .before .before .before .before .before .before .before .before .before .before .before .before .before .before .before .before .before .before .before .before .before .before .before .before .before .before .before .next-place .ensures), grows (c .before .before .before .before .before .before .before .before .before .before .before .before .before .before .before .before .before .before .before .before .before .before .before .before .before .before .before .before .before .before .before .before .before .before .before .before .before .before .before .args .t1) (c .before .before .before .before .before .before .before .before .before .before .before .before .before .before .before .before .before .before .before .before .before .before .before .before .before .before .before .before .before .before .before .loop .v) _ (c .before .before .before .before .before .before .before .before .before .before .before .before .before .before .before .before .before .before .before .before .before .before .before .before .before .before .before .before .before .before .before .loop .inv .2) _ (node-by (c .before .before .before .before .before .before .before .before .before .before .before .before .before .before .before .before .before .before .before .before .before .before .before .before .before .before .before .before .before .before .before .before .before .before .before .before .before .before .before .args .t1) _ _ _ _ (placed (c .before .before .before .before .before .before .before .before .before .before .before .before .before .before .before .before .before .before .before .before .before .before .before .before .before .before .before .before .before .before)) refl (c .before .before .before .before .before .before .before .before .before .before .before .before .cut-down .ensures)) (in-nodes (c .before .before .before .before .before .before .before .before .before .before .before .before .before .before .before .before .before .before .before .before .before .before .before .before .before .before .before .before .before .before)) _ _ _ (in-growth (c .before .before .before .before .before .before .before .before .before .before .before .before .before .before .before .before .before .before .before .before .before .before .before .before .before .before .before .before .before .before)) (slot-by (c .before .before .before .before .before .before .before .before .before .before .before .before .before .before .before .before .before .before .before .before .before .before .before .before .before .before .before .before .before .before .before .before .before .before .before .before .before .before .before .args .t1) _ 0 _ (3 * c .before .before .before .before .before .before .before .before .before .before .before .before .before .before .before .before .before .before .before .before .before .before .before .before .before .before .before .before .before .before .before .loop .count) _ _ _ _ _ (omega arith) (omega arith) named-east (placed (c .before .before .before .before .before .before .before .before .before .before .before .before .before .before .before .before .before .before .before .before .before .before .before .before .before .before .before .before .before .before)) (c .before .before .before .before .before .before .before .before .before .before .before .reach .ensures) refl refl (c .before .before .before .before .before .before .gain .ensures)) (slot-by (c .before .before .before .before .before .before .before .before .before .before .before .before .before .before .before .before .before .before .before .before .before .before .before .before .before .before .before .before .before .before .before .before .before .before .before .before .before .before .before .args .t1) _ 1 _ (3 * c .before .before .before .before .before .before .before .before .before .before .before .before .before .before .before .before .before .before .before .before .before .before .before .before .before .before .before .before .before .before .before .loop .count + 1) _ _ _ _ _ (omega arith) (omega arith) named-south (placed (c .before .before .before .before .before .before .before .before .before .before .before .before .before .before .before .before .before .before .before .before .before .before .before .before .before .before .before .before .before .before)) (c .before .before .before .before .before .before .before .before .before .before .reach2 .ensures) refl refl (c .before .before .before .gain2 .ensures)) (slot-by (c .before .before .before .before .before .before .before .before .before .before .before .before .before .before .before .before .before .before .before .before .before .before .before .before .before .before .before .before .before .before .before .before .before .before .before .before .before .before .before .args .t1) _ 2 _ (3 * c .before .before .before .before .before .before .before .before .before .before .before .before .before .before .before .before .before .before .before .before .before .before .before .before .before .before .before .before .before .before .before .loop .count + 2) _ _ _ _ _ (omega arith) (omega arith) named-up (placed (c .before .before .before .before .before .before .before .before .before .before .before .before .before .before .before .before .before .before .before .before .before .before .before .before .before .before .before .before .before .before)) (c .before .before .before .before .before .before .before .before .before .reach3 .ensures) refl refl (c .gain3 .ensures)))
+loop-again-2 c = (omega (arith, c .before .before .before .before .before .before .before .before .before .before .before .before .before .before .before .before .before .before .before .before .before .before .before .before .before .before .before .before .before .before .loop-test .taken), walks-on (c .before .before .before .before .before .before .before .before .before .before .before .before .before .before .before .before .before .before .before .before .before .before .before .before .before .before .before .before .before .before .before .before .before .before .before .before .before .before .before .before .args .t1 .shape .height) (c .before .before .before .before .before .before .before .before .before .before .before .before .before .before .before .before .before .before .before .before .before .before .before .before .before .before .before .before .before .before .before .before .before .before .before .before .before .before .before .before .args .t1 .shape .distance) _ _ _ (c .before .before .before .before .before .before .before .before .before .before .before .before .before .before .before .before .before .before .before .before .before .before .before .before .before .before .before .before .before .before .before .loop .inv .1) (c .before .before .before .before .before .before .before .before .before .before .before .before .before .before .before .before .before .before .before .before .before .before .before .before .before .before .before .before .before .next-place .ensures), grows (c .before .before .before .before .before .before .before .before .before .before .before .before .before .before .before .before .before .before .before .before .before .before .before .before .before .before .before .before .before .before .before .before .before .before .before .before .before .before .before .before .args .t1) (c .before .before .before .before .before .before .before .before .before .before .before .before .before .before .before .before .before .before .before .before .before .before .before .before .before .before .before .before .before .before .before .loop .v) _ (c .before .before .before .before .before .before .before .before .before .before .before .before .before .before .before .before .before .before .before .before .before .before .before .before .before .before .before .before .before .before .before .loop .inv .2) _ (node-by (c .before .before .before .before .before .before .before .before .before .before .before .before .before .before .before .before .before .before .before .before .before .before .before .before .before .before .before .before .before .before .before .before .before .before .before .before .before .before .before .before .args .t1) _ _ _ _ (placed (c .before .before .before .before .before .before .before .before .before .before .before .before .before .before .before .before .before .before .before .before .before .before .before .before .before .before .before .before .before .before)) refl (c .before .before .before .before .before .before .before .before .before .before .before .before .cut-down .ensures)) (in-nodes (c .before .before .before .before .before .before .before .before .before .before .before .before .before .before .before .before .before .before .before .before .before .before .before .before .before .before .before .before .before .before)) _ _ _ (in-growth (c .before .before .before .before .before .before .before .before .before .before .before .before .before .before .before .before .before .before .before .before .before .before .before .before .before .before .before .before .before .before)) (slot-by (c .before .before .before .before .before .before .before .before .before .before .before .before .before .before .before .before .before .before .before .before .before .before .before .before .before .before .before .before .before .before .before .before .before .before .before .before .before .before .before .before .args .t1) _ 0 _ (3 * c .before .before .before .before .before .before .before .before .before .before .before .before .before .before .before .before .before .before .before .before .before .before .before .before .before .before .before .before .before .before .before .loop .count) _ _ _ _ _ (omega arith) (omega arith) named-east (placed (c .before .before .before .before .before .before .before .before .before .before .before .before .before .before .before .before .before .before .before .before .before .before .before .before .before .before .before .before .before .before)) (c .before .before .before .before .before .before .before .before .before .before .before .reach .ensures) refl refl (c .before .before .before .before .before .before .gain .ensures)) (slot-by (c .before .before .before .before .before .before .before .before .before .before .before .before .before .before .before .before .before .before .before .before .before .before .before .before .before .before .before .before .before .before .before .before .before .before .before .before .before .before .before .before .args .t1) _ 1 _ (3 * c .before .before .before .before .before .before .before .before .before .before .before .before .before .before .before .before .before .before .before .before .before .before .before .before .before .before .before .before .before .before .before .loop .count + 1) _ _ _ _ _ (omega arith) (omega arith) named-south (placed (c .before .before .before .before .before .before .before .before .before .before .before .before .before .before .before .before .before .before .before .before .before .before .before .before .before .before .before .before .before .before)) (c .before .before .before .before .before .before .before .before .before .before .reach2 .ensures) refl refl (c .before .before .before .gain2 .ensures)) (slot-by (c .before .before .before .before .before .before .before .before .before .before .before .before .before .before .before .before .before .before .before .before .before .before .before .before .before .before .before .before .before .before .before .before .before .before .before .before .before .before .before .before .args .t1) _ 2 _ (3 * c .before .before .before .before .before .before .before .before .before .before .before .before .before .before .before .before .before .before .before .before .before .before .before .before .before .before .before .before .before .before .before .loop .count + 2) _ _ _ _ _ (omega arith) (omega arith) named-up (placed (c .before .before .before .before .before .before .before .before .before .before .before .before .before .before .before .before .before .before .before .before .before .before .before .before .before .before .before .before .before .before)) (c .before .before .before .before .before .before .before .before .before .reach3 .ensures) refl refl (c .gain3 .ensures)))
 
 returns : tie.Need-returns Inv-loop μ-loop
-returns c = ends (c .before .before .before .before .before .before .before .before .before .args .t1) _ _ (omega (arith, c .before .loop .inv .0, c .loop-test .left, c .before .before .before .before .before .before .before .nodes .ensures)) (c .before .loop .inv .2)
+returns c = ends (c .before .before .before .before .before .before .before .before .before .before .args .t1) _ _ (omega (arith, c .before .loop .inv .0, c .loop-test .left, c .before .before .before .before .before .before .before .before .nodes .ensures)) (c .before .loop .inv .2)
 
 pub grow-spec : {M : Type 1} → statement M
 grow-spec =

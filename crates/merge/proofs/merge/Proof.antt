@@ -272,9 +272,9 @@ stage-after-requires c κs = search needs
 
 returns : tie.Need-returns Inv-look μ-look Inv-nodes μ-nodes
 returns c =
-    let l = c .before .before .before .nodes in
-    let w = c .before .before .before .before .before .before .before .before .before .before .before .args .t1 in
-    let e : l .g ≡ size w = omega (arith, l .inv .0, c .before .before .nodes-test .left, c .before .before .before .before .before .before .before .before .before .nodes2 .ensures) in
+    let l = c .before .before .before .before .nodes in
+    let w = c .before .before .before .before .before .before .before .before .before .before .before .before .args .t1 in
+    let e : l .g ≡ size w = omega (arith, l .inv .0, c .before .before .before .nodes-test .left, c .before .before .before .before .before .before .before .before .before .before .nodes2 .ensures) in
     merged-by w (l .g) _ _ _ _ e (c .stage-after .ensures) (l .inv .2) (l .inv .1) (l .inv .3)
 
 pub merge-spec : {M : Type 1} → statement M

@@ -10,7 +10,7 @@ use Rattle.shape.specs.LawsSizes.{detectors-le}
 use Rattle.shape.specs.Ranges.{in-range}
 use Rattle.steps.specs.Steps.{base}
 use Rattle.closure.specs.Facts.{facts}
-use Rattle.turn.proofs.Parts.{Fills, part-fits, part-back, part-long}
+use Rattle.window.specs.LawsLists.{Fills, part-fits, part-back, part-long}
 use Rattle.one_record.proofs.OneRecord.{Read, round-refused, round-long, round-turned}
 use Rattle.one_record.proofs.decode_read.Statement.{statement}
 use Rattle.one_record.proofs.decode_read.Tie as tie

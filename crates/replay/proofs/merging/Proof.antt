@@ -31,8 +31,8 @@ returns c = tt
 sub-left : tie.Need-sub-left Inv-loop μ-loop
 sub-left c = omega arith
 
-say-digest-requires : tie.Need-say-digest-requires Inv-loop μ-loop
-say-digest-requires c κs = tt
+say-window-requires : tie.Need-say-window-requires Inv-loop μ-loop
+say-window-requires c κs = tt
 
 loop-less : tie.Need-loop-less Inv-loop μ-loop
 loop-less c = omega arith
@@ -62,7 +62,7 @@ merging-spec =
     say-merged-requires
     returns
     sub-left
-    say-digest-requires
+    say-window-requires
     loop-less
     loop-again
     loop-less-2

@@ -6,7 +6,8 @@ use borrow.Author.Needs.{needs}
 use borrow.Author.Tests.{not-true, not-false}
 use lib.Seq.{length-take-le}
 use lib.ListN.{length, take, replicate}
-use Rattle.turn.proofs.Parts.{detectors-le, edges-le, Fills, part-fits, part-back, part-long, edges-fill, escapes-fill}
+use Rattle.window.specs.LawsLists.{Fills, part-fits, part-back, part-long}
+use Rattle.turn.proofs.Parts.{detectors-le, edges-le, edges-fill, escapes-fill}
 use Rattle.turn.proofs.Written.{Put, round-spent, round-full, round-written}
 use Rattle.turn.proofs.decode_round.Statement.{statement}
 use Rattle.turn.proofs.decode_round.Tie as tie

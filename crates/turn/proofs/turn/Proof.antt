@@ -3,19 +3,13 @@ use mathlib.Core.Path.{_∙_, ap}
 use borrow.Author.Needs.{needs}
 use Rattle.steps.specs.Steps.{base}
 use Rattle.window.specs.Run.{ran}
-use Rattle.window.specs.declared.Window.{Window}
+use Rattle.window.specs.Calls.{Round, edgesOf, escapesOf}
 use Rattle.decoding.specs.Decoding.{budget}
 use Rattle.turn.proofs.turn.Statement.{statement}
 use Rattle.turn.proofs.turn.Tie as tie
 
-commit-requires : tie.Need-commit-requires
-commit-requires c κs = search needs
-
-escape-requires : tie.Need-escape-requires
-escape-requires c κs = search needs
-
-sink-requires : tie.Need-sink-requires
-sink-requires c κs = search needs
+round-requires : tie.Need-round-requires
+round-requires c κs = search needs
 
 run-requires : tie.Need-run-requires
 run-requires c κs = search needs
@@ -27,15 +21,15 @@ same-length-2 : tie.Need-same-length-2
 same-length-2 c = search needs
 
 returns : tie.Need-returns
-returns c = (c .run .ensures ∙ ap (λ (v : Window). ran base budget v) (c .before .sink .ensures), (c .before .before .before .before .before .before .before .before .commit .ensures, c .before .before .before .before .escape .ensures))
+returns c =
+    let e = c .before .before .before .before .before .round .ensures in
+    (c .run .ensures ∙ ap (λ (r : Round). ran base budget (r .window)) e, (ap edgesOf e, ap escapesOf e))
 
 pub turn-spec : {M : Type 1} → statement M
 turn-spec =
     tie.close
     (tie.spec
-    commit-requires
-    escape-requires
-    sink-requires
+    round-requires
     run-requires
     same-length
     same-length-2

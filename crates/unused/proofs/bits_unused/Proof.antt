@@ -10,10 +10,10 @@ use Rattle.unused.proofs.bits_unused.Tie as tie
 use Rattle.unused.proofs.Behind.{reads, has-read}
 
 abbrev Inv-loop : tie.InvT-loop
-Inv-loop correction n unused₀ e₀ unused e = unused && all not (drop e correction) ≡ all not (drop n correction)
+Inv-loop bits n unused₀ e₀ unused e = unused && all not (drop e bits) ≡ all not (drop n bits)
 
 abbrev μ-loop : tie.MeasureT-loop
-μ-loop correction n unused₀ e₀ unused e = length correction - e
+μ-loop bits n unused₀ e₀ unused e = length bits - e
 
 loop-holds : tie.Need-loop-holds Inv-loop μ-loop
 loop-holds c = refl
@@ -28,10 +28,10 @@ loop-less : tie.Need-loop-less Inv-loop μ-loop
 loop-less c = search needs
 
 loop-again : tie.Need-loop-again Inv-loop μ-loop
-loop-again c = reads not (c .before .before .before .args .correction .now) (c .before .before .before .args .n) (c .before .before .loop .e) (c .before .before .loop .unused) (c .before .before .loop .inv) false (c .before .loop-test .taken)
+loop-again c = reads not (c .before .before .before .args .bits .now) (c .before .before .before .args .n) (c .before .before .loop .e) (c .before .before .loop .unused) (c .before .before .loop .inv) false (c .before .loop-test .taken)
 
 returns : tie.Need-returns Inv-loop μ-loop
-returns c = has-read not (c .before .before .args .correction .now) (c .before .before .args .n) (c .before .loop .e) (c .before .loop .unused) (c .before .loop .inv) (c .loop-test .left)
+returns c = has-read not (c .before .before .args .bits .now) (c .before .before .args .n) (c .before .loop .e) (c .before .loop .unused) (c .before .loop .inv) (c .loop-test .left)
 
 pub bits-unused-spec : {M : Type 1} → statement M
 bits-unused-spec =

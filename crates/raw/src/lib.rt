@@ -1,0 +1,57 @@
+// Receiving a round of raw measurements.
+use window::Window;
+ghost use mathlib.Core.Path.{_≡_};
+ghost use mathlib.Core.Bool.{true};
+ghost use Prim.Native.Nat.{_<_, _≤_};
+ghost use lib.ListN.{length};
+ghost use Rattle.shape.specs.Sizes.{inRange, detectorsOf, layerEdgesOf};
+ghost use Rattle.steps.specs.Steps.{base};
+ghost use Rattle.window.specs.Measured.{differences as differencesOf, asSheet};
+ghost use Rattle.window.specs.Calls.{asRound, receivingRaw};
+
+// Where the bytes differ from a sheet.
+fn differences(sheet: &[bool; 210], bytes: &[u8], defects: &mut [u8])
+    requires { ⌜ length (now bytes) ≤ 210 ⌝ }
+    requires { ⌜ length (now defects) ≡ length (now bytes) ⌝ }
+    ensures { λ _. ⌜ now (defects .exit) ≡ differencesOf (now (sheet .entry)) (now (bytes .entry)) ⌝ }
+{
+    let mut i: usize = 0;
+    while i < bytes.len() {
+        defects[i] = window::bit((bytes[i] == 1) ^ sheet[i]);
+        i += 1;
+    }
+}
+
+// The bytes as a sheet.
+fn sheet_of(bytes: &[u8]) -> [bool; 210]
+    requires { ⌜ length (now bytes) ≤ 210 ⌝ }
+    ensures { λ r. ⌜ r ≡ asSheet (now (bytes .entry)) ⌝ }
+{
+    let mut sheet = [false; 210];
+    let mut i: usize = 0;
+    while i < bytes.len() {
+        sheet[i] = bytes[i] == 1;
+        i += 1;
+    }
+    sheet
+}
+
+// The round is received with the places that differ from the last measured sheet; then the sheet is the bytes.
+pub fn raw(w: Window, bytes: &[u8], edges: &mut [u8], escapes: &mut [u8]) -> Window
+    requires { ⌜ inRange (w .shape .height) (w .shape .distance) ≡ true ⌝ }
+    requires { ⌜ w .next < 4294967295 ⌝ }
+    requires { ⌜ length (now bytes) ≡ detectorsOf (w .shape .height) (w .shape .distance) ⌝ }
+    requires { ⌜ length (now edges) ≡ layerEdgesOf (w .shape .height) (w .shape .distance) ⌝ }
+    requires { ⌜ length (now escapes) ≡ detectorsOf (w .shape .height) (w .shape .distance) ⌝ }
+    ensures { λ r. ⌜ asRound r (now (edges .exit)) (now (escapes .exit)) ≡ receivingRaw base w (now (bytes .entry)) ⌝ }
+{
+    let n = bytes.len();
+    // both sheets by a name: the old one is read, the new one is stored
+    let last = w.measured;
+    let sheet = sheet_of(bytes);
+    let mut defects = [0; 210];
+    differences(&last, bytes, &mut defects[..n]);
+    let mut v = round::round(w, &defects[..n], edges, escapes);
+    v.measured = sheet;
+    v
+}
