@@ -41,18 +41,18 @@ orphan T w g = bottom w g && falls T (at w g .pointer)
 -- NODES
 
 module _ (T : Table) (w : Window) (g : ℕ) (l : g < size w) where
-  module _ (bytes : List ℕ) where
-    rounded-at : at (rounded T w bytes) g ≡ fallenNode w bytes g
+  module _ (defects : List ℕ) where
+    rounded-at : at (rounded T w defects) g ≡ fallenNode w defects g
     unfolding rounded
-    rounded-at = over-at (fallenNode w bytes) (w .nodes) (size w) g beyond l
+    rounded-at = over-at (fallenNode w defects) (w .nodes) (size w) g beyond l
 
     -- in the new top sheet
-    pub top-at : g < sheet w → at (rounded T w bytes) g ≡ topNode (w .shape .height) (w .shape .distance) bytes (place w g)
+    pub top-at : g < sheet w → at (rounded T w defects) g ≡ topNode (w .shape .height) (w .shape .distance) defects (place w g)
     unfolding fallenNode
     top-at m = rounded-at ∙ if-true (ltb g (sheet w)) _ _ (lt-ltb _ _ m)
 
     -- below node a
-    pub sunk-at : (a : ℕ) → g ≡ a + sheet w → at (rounded T w bytes) g ≡ sunk (w .shape .height) (w .shape .distance) (at w a)
+    pub sunk-at : (a : ℕ) → g ≡ a + sheet w → at (rounded T w defects) g ≡ sunk (w .shape .height) (w .shape .distance) (at w a)
     unfolding fallenNode
     sunk-at a e =
         let x : g - sheet w ≡ a = omega arith in

@@ -51,8 +51,8 @@ kept-fresh T sh e = record { formed = fresh T sh e; sized = fresh-sized sh }
 
 module _ (T : Table) (S : Suited T) where
   module _ (w : Window) (k : Kept T w) where
-    pub kept-round : (bytes : List ℕ) → isRest (w .stage) ≡ true → Kept T (rounded T w bytes)
-    kept-round bytes st = record { formed = round T w bytes S (k .formed) st; sized = round-sized T w bytes (S .room) (k .sized) }
+    pub kept-round : (defects : List ℕ) → isRest (w .stage) ≡ true → Kept T (rounded T w defects)
+    kept-round defects st = record { formed = round T w defects S (k .formed) st; sized = round-sized T w defects (S .room) (k .sized) }
 
     pub kept-measuring : (bytes : List ℕ) → length bytes ≡ detectorsOf (w .shape .height) (w .shape .distance) → Kept T (measuring w bytes)
     kept-measuring bytes long = record { formed = measure T w bytes long (k .formed); sized = measure-sized T w bytes long (k .formed) (k .sized) }

@@ -40,7 +40,7 @@ top-fits : (b x : Bool) → not (b && (not b && x)) ≡ true
 top-fits true x = refl
 top-fits false x = refl
 
-module _ (T : Table) (S : Suited T) (w : Window) (bytes : List ℕ) (f : Facts T w) (st : isRest (w .stage) ≡ true) where
+module _ (T : Table) (S : Suited T) (w : Window) (defects : List ℕ) (f : Facts T w) (st : isRest (w .stage) ≡ true) where
   abbrev h : ℕ
   h = w .shape .height
 
@@ -92,11 +92,11 @@ module _ (T : Table) (S : Suited T) (w : Window) (bytes : List ℕ) (f : Facts T
           used = choice _ _ (s .used) (λ e. either _ _ (falls-on kind k e)) (λ e. other (to w T (namer T kind) g .there) _ e);
         }
 
-  node-fits : (g : ℕ) → g < size w → Fits T ToGrow h d (place w g) (at (rounded T w bytes) g)
+  node-fits : (g : ℕ) → g < size w → Fits T ToGrow h d (place w g) (at (rounded T w defects) g)
   unfolding topNode
   node-fits g l =
-      ⊎-elim (λ m. rw (top-at T w g l bytes m) (alone-fits T ToGrow h d (f .ranged) g l _ (top-fits (boundary d (place w g .column)) _)))
-      (λ m. rw (sunk-at T w g l bytes (above g l m) (above-is g l m)) (sunk-fits g l m))
+      ⊎-elim (λ m. rw (top-at T w g l defects m) (alone-fits T ToGrow h d (f .ranged) g l _ (top-fits (boundary d (place w g .column)) _)))
+      (λ m. rw (sunk-at T w g l defects (above g l m) (above-is g l m)) (sunk-fits g l m))
       (order g (sheet w))
 
   -- SLOTS
@@ -118,7 +118,7 @@ module _ (T : Table) (S : Suited T) (w : Window) (bytes : List ℕ) (f : Facts T
       (slot-falls g l n kind _ _ m (f .slots a kind (above-lt w (f .ranged) a g x l) m)))
       (tell (atTop T w g (namer T kind)))
 
-  rounded-facts : Facts T (rounded T w bytes)
+  rounded-facts : Facts T (rounded T w defects)
   unfolding rounded
   rounded-facts =
       record {
@@ -126,21 +126,21 @@ module _ (T : Table) (S : Suited T) (w : Window) (bytes : List ℕ) (f : Facts T
         next = omega (arith, f .next);
         nodes = node-fits;
         slots = slot-fits;
-        unusedNodes = all-over unusedNode (fallenNode w bytes) (size w) (w .nodes) (f .unusedNodes);
+        unusedNodes = all-over unusedNode (fallenNode w defects) (size w) (w .nodes) (f .unusedNodes);
         unusedGrowth = all-over isEmpty (fallenSlot T w 0 (w .growth)) (T .kinds * size w) (w .growth) (f .unusedGrowth);
         unusedCorrection = all-over not (fallenSlot T w false (w .correction)) (T .kinds * size w) (w .correction) (f .unusedCorrection);
         unusedMeasured = f .unusedMeasured;
       }
 
-module _ (T : Table) (w : Window) (bytes : List ℕ) where
-  pub round : Suited T → wellFormed T w ≡ true → isRest (w .stage) ≡ true → wellFormed T (rounded T w bytes) ≡ true
-  round S e st = formed T (rounded T w bytes) (rounded-facts T S w bytes (facts T w e) st)
+module _ (T : Table) (w : Window) (defects : List ℕ) where
+  pub round : Suited T → wellFormed T w ≡ true → isRest (w .stage) ≡ true → wellFormed T (rounded T w defects) ≡ true
+  round S e st = formed T (rounded T w defects) (rounded-facts T S w defects (facts T w e) st)
 
-  pub round-sized : T .kinds ≤ 3 → Sized w → Sized (rounded T w bytes)
+  pub round-sized : T .kinds ≤ 3 → Sized w → Sized (rounded T w defects)
   unfolding rounded
   round-sized l s =
       record {
-        nodes = nodes-over w s (fallenNode w bytes);
+        nodes = nodes-over w s (fallenNode w defects);
         growth = growth-over w s (T .kinds) l (fallenSlot T w 0 (w .growth));
         correction = correction-over w s (T .kinds) l (fallenSlot T w false (w .correction));
         measured = s .measured;

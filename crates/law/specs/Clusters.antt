@@ -74,7 +74,7 @@ module _ (T : Table) (S : Suited T) where
   unfolding rounded grown measuring
   clustered =
       record {
-        round = λ p bytes k st bits i. round-fallen T S (p .window) bytes k (calm T (p .window) (p .window .stage) st i);
+        round = λ p defects k st bits i. round-fallen T S (p .window) defects k (calm T (p .window) (p .window .stage) st i);
         replace = λ p bytes i. settled-measured T (p .window) bytes (p .window .stage) i;
         grow = λ p k st i. grow-inv T (p .window) k (fallen T (p .window) (p .window .stage) st i);
         merging = λ p k st i.

@@ -31,7 +31,7 @@ use Rattle.law.specs.LowerSlots.{across-lower, slot-falls}
 use Rattle.law.specs.Graph.{graph, view, Chain, here as arrived, via as over, same, Home, Calm}
 use Rattle.law.specs.Fallen.{Ends, centre, out, via, Sunk, Fallen}
 
-module _ (T : Table) (S : Suited T) (w : Window) (bytes : List ℕ) (r : Ranged (w .shape .height) (w .shape .distance)) (calm : Calm (graph T w) (view w)) where
+module _ (T : Table) (S : Suited T) (w : Window) (defects : List ℕ) (r : Ranged (w .shape .height) (w .shape .distance)) (calm : Calm (graph T w) (view w)) where
   abbrev h : ℕ
   h = w .shape .height
 
@@ -39,12 +39,12 @@ module _ (T : Table) (S : Suited T) (w : Window) (bytes : List ℕ) (r : Ranged 
   d = w .shape .distance
 
   abbrev w' : Window
-  w' = rounded T w bytes
+  w' = rounded T w defects
 
   top-sunk : (v : ℕ) → v < size w → v < sheet w → Sunk T w' v
   unfolding rounded topNode
   top-sunk v l m =
-      let a = top-at T w v l bytes m in
+      let a = top-at T w v l defects m in
       let c = pointers a in
       record {
         number = numberOf h d (place w v);
@@ -66,7 +66,7 @@ module _ (T : Table) (S : Suited T) (w : Window) (bytes : List ℕ) (r : Ranged 
     moves = above-place w r a (a + sheet w) refl l
 
     sinks : at w' (a + sheet w) ≡ sunk h d (at w a)
-    sinks = sunk-at T w (a + sheet w) l bytes a refl
+    sinks = sunk-at T w (a + sheet w) l defects a refl
 
     abbrev p : ℕ
     p = at w a .pointer
@@ -126,7 +126,7 @@ module _ (T : Table) (S : Suited T) (w : Window) (bytes : List ℕ) (r : Ranged 
 
         mark-across : at w' (next + sheet w) .mark ≡ at w' (a + sheet w) .mark
         mark-across =
-            marks (sunk-at T w (next + sheet w) next-lt bytes next refl) ∙ ap (λ (m : Mark). lowered h d m) (home .across p opens) ∙ sym mark-sinks
+            marks (sunk-at T w (next + sheet w) next-lt defects next refl) ∙ ap (λ (m : Mark). lowered h d m) (home .across p opens) ∙ sym mark-sinks
 
   -- pointers lead where they led, one sheet down
   ends : (a t : ℕ) → a + sheet w < size w → Chain (graph T w) (view w) a t → Ends T w' (a + sheet w)
@@ -160,5 +160,5 @@ module _ (T : Table) (S : Suited T) (w : Window) (bytes : List ℕ) (r : Ranged 
       (λ m. let e : v - sheet w + sheet w ≡ v = omega arith in subst (λ (n : ℕ). Sunk T w' n) e (below-sunk (v - sheet w) (rw e l)))
       (order v (sheet w))
 
-pub round-fallen : (T : Table) → Suited T → (w : Window) (bytes : List ℕ) → Kept T w → Calm (graph T w) (view w) → Fallen T (rounded T w bytes)
-round-fallen T S w bytes k calm = fallen T S w bytes (facts T w (k .formed) .ranged) calm
+pub round-fallen : (T : Table) → Suited T → (w : Window) (defects : List ℕ) → Kept T w → Calm (graph T w) (view w) → Fallen T (rounded T w defects)
+round-fallen T S w defects k calm = fallen T S w defects (facts T w (k .formed) .ranged) calm

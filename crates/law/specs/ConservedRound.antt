@@ -27,9 +27,9 @@ use Rattle.law.specs.Layered.{Layered}
 use Rattle.law.specs.RoundEdges.{old-edge, new-edge, ends-below}
 use Rattle.law.specs.RoundDefects.{old-defect, new-defect, old-received, new-received}
 
-module _ (T : Table) (S : Suited T) (L : Layered T) (p : Played) (bytes : List ℕ) (r : Ranged (height p) (distance p)) where
+module _ (T : Table) (S : Suited T) (L : Layered T) (p : Played) (defects : List ℕ) (r : Ranged (height p) (distance p)) where
   abbrev after : Played
-  after = taken T p bytes
+  after = taken T p defects
 
   abbrev h : ℕ
   h = height p
@@ -46,34 +46,34 @@ module _ (T : Table) (S : Suited T) (L : Layered T) (p : Played) (bytes : List �
   ended-after : (a : Spot) → ended T after (corrected T after) a ≡ ended T p (corrected T p) a
   unfolding rounded
   ended-after a =
-      ap (λ (k : ℕ). parity (k + 1) (terms (corrected T after) a)) (later T p bytes)
+      ap (λ (k : ℕ). parity (k + 1) (terms (corrected T after) a)) (later T p defects)
       ∙ parity-more (terms (corrected T after) a) (last p + 1)
       ∙ ap₂ (λ (x y : Bool). xor x y)
       (parity-same (terms (corrected T after) a) (terms (corrected T p) a) (last p + 1) (λ n m.
       let high : n ≤ last p = omega arith in
-      parity-same _ (λ i. corrected T p n i && ends T n (edgeOf h d i) a) E (λ i l. ap (λ (b : Bool). b && ends T n (edgeOf h d i) a) (old-edge T S L p bytes r n i l high))))
-      (parity-none (λ i. corrected T after (last p + 1) i && ends T (last p + 1) (edgeOf h d i) a) E (λ i l. and-not _ _ (new-edge T S L p bytes r (last p + 1) i l refl)))
+      parity-same _ (λ i. corrected T p n i && ends T n (edgeOf h d i) a) E (λ i l. ap (λ (b : Bool). b && ends T n (edgeOf h d i) a) (old-edge T S L p defects r n i l high))))
+      (parity-none (λ i. corrected T after (last p + 1) i && ends T (last p + 1) (edgeOf h d i) a) E (λ i l. and-not _ _ (new-edge T S L p defects r (last p + 1) i l refl)))
       ∙ xor-none (ended T p (corrected T p) a)
 
   ended-new : (a : Spot) → a .round ≡ last p + 1 → ended T p (corrected T p) a ≡ false
   ended-new a e =
       ended-none T p (corrected T p) a (λ n i m l. let high : n ≤ last p = omega arith in ends-below T S L p r n i l a e high)
 
-  pub conserved-round : areBits bytes ≡ true → Conserved T p → Conserved T after
+  pub conserved-round : areBits defects ≡ true → Conserved T p → Conserved T after
   unfolding rounded
   conserved-round bits c = conserved-by T after (λ a i. ⊎-elim (old a i) (new a i) (order (a .round) (last p + 1)))
     where
       old : (a : Spot) → Detector after a → a .round < last p + 1 → received after a % 2 ≡ bit (charge T after a)
       old a i l =
           let high : a .round ≤ last p = omega arith in
-          ap (λ (n : ℕ). n % 2) (old-received T p bytes a high)
+          ap (λ (n : ℕ). n % 2) (old-received T p defects a high)
           ∙ charged T p c a (record { arrived = high; row = i .row; west = i .west; east = i .east })
-          ∙ ap bit (sym (ap₂ (λ (x y : Bool). xor x y) (ended-after a) (old-defect T p bytes r a (i .row) (i .west) (i .east) high)))
+          ∙ ap bit (sym (ap₂ (λ (x y : Bool). xor x y) (ended-after a) (old-defect T p defects r a (i .row) (i .west) (i .east) high)))
 
       new : (a : Spot) → Detector after a → last p + 1 ≤ a .round → received after a % 2 ≡ bit (charge T after a)
       new a i l =
-          let f = later T p bytes in
+          let f = later T p defects in
           let e : a .round ≡ last p + 1 = omega (arith, i .arrived) in
-          ap (λ (n : ℕ). n % 2) (new-received T p bytes r a e)
-          ∙ byte-bit bytes bits (entry p a)
-          ∙ ap bit (sym (ap₂ (λ (x y : Bool). xor x y) (ended-after a ∙ ended-new a e) (new-defect T p bytes r a (i .row) (i .west) (i .east) e) ∙ none-xor (eqb (getD bytes (entry p a) 0) 1)))
+          ap (λ (n : ℕ). n % 2) (new-received T p defects r a e)
+          ∙ byte-bit defects bits (entry p a)
+          ∙ ap bit (sym (ap₂ (λ (x y : Bool). xor x y) (ended-after a ∙ ended-new a e) (new-defect T p defects r a (i .row) (i .west) (i .east) e) ∙ none-xor (eqb (getD defects (entry p a) 0) 1)))

@@ -27,13 +27,13 @@ use Rattle.closure.specs.Lower.{lower, index-lower}
 use Rattle.law.specs.Law.{Played, Receipt, Spot, height, distance, sheets, last, receipt, placeNow, entry, received}
 use Rattle.law.specs.Rules.{taken}
 use Rattle.law.specs.Bits.{bit-one}
-use Rattle.law.specs.Nodes.{defects}
+use Rattle.law.specs.Nodes.{defects as same-defects}
 use Rattle.law.specs.Receipts.{old-receipt, new-receipt, counts, later, lower-than, three}
 use Rattle.law.specs.Conserved.{defective, left-defect, held-defect}
 
-module _ (T : Table) (p : Played) (bytes : List ℕ) where
+module _ (T : Table) (p : Played) (defects : List ℕ) where
   abbrev after : Played
-  after = taken T p bytes
+  after = taken T p defects
 
   abbrev count : ℕ
   count = length (p .receipts)
@@ -54,34 +54,34 @@ module _ (T : Table) (p : Played) (bytes : List ℕ) where
   old-received a high =
       ⊎-elim (λ x. if-true {A = ℕ} (ltb (a .round) s) 0 _ (lt-ltb _ _ x) ∙ sym (if-true {A = ℕ} (ltb (a .round) s) 0 _ (lt-ltb _ _ x)))
       (λ x. let m : a .round - s < count = omega arith in
-      ap (λ (y : Receipt). if (ltb (a .round) s) 0 (getD (y .defects) (entry p a) 0)) (old-receipt T p bytes (a .round - s) m))
+      ap (λ (y : Receipt). if (ltb (a .round) s) 0 (getD (y .defects) (entry p a) 0)) (old-receipt T p defects (a .round - s) m))
       (order (a .round) s)
 
   module _ (r : Ranged h d) where
-    pub new-received : (a : Spot) → a .round ≡ last p + 1 → received after a ≡ getD bytes (entry p a) 0
+    pub new-received : (a : Spot) → a .round ≡ last p + 1 → received after a ≡ getD defects (entry p a) 0
     unfolding rounded
     new-received a e =
         let t = three p r in
         let x : s ≤ a .round = omega arith in
         let y : a .round - s ≡ count = omega arith in
         if-false {A = ℕ} (ltb (a .round) s) 0 _ (le-ltb _ _ x)
-        ∙ ap (λ (z : Receipt). getD (z .defects) (entry p a) 0) (ap (λ (k : ℕ). receipt after k) y ∙ new-receipt T p bytes)
+        ∙ ap (λ (z : Receipt). getD (z .defects) (entry p a) 0) (ap (λ (k : ℕ). receipt after k) y ∙ new-receipt T p defects)
 
     -- A DEFECT AFTER ROUND
 
-    sunk-defect : (q : Place) → Inside h d s (lower q) → at (rounded T (p .window) bytes) (indexOf h d (lower q)) .defect ≡ at (p .window) (indexOf h d q) .defect
-    sunk-defect q i = defects (sunk-at T (p .window) (indexOf h d (lower q)) (index-within h d r (lower q) i) bytes (indexOf h d q) (index-lower h d q))
+    sunk-defect : (q : Place) → Inside h d s (lower q) → at (rounded T (p .window) defects) (indexOf h d (lower q)) .defect ≡ at (p .window) (indexOf h d q) .defect
+    sunk-defect q i = same-defects (sunk-at T (p .window) (indexOf h d (lower q)) (index-within h d r (lower q) i) defects (indexOf h d q) (index-lower h d q))
 
     top-defect : (q : Place) → Inside h d s q → q .depth ≡ 0 → 1 ≤ q .column → q .column < d
-        → at (rounded T (p .window) bytes) (indexOf h d q) .defect ≡ eqb (getD bytes (q .row * (d - 1) + (q .column - 1)) 0) 1
+        → at (rounded T (p .window) defects) (indexOf h d q) .defect ≡ eqb (getD defects (q .row * (d - 1) + (q .column - 1)) 0) 1
     unfolding arriving
     top-defect q i z a b =
         let g = indexOf h d q in
         let x : g < h * (d + 1) * 1 = index-lt h d 1 q (record { depth = omega arith; row = i .row; column = i .column }) in
         let l : g < sheet (p .window) = omega (arith, x) in
-        defects (top-at T (p .window) g (index-within h d r q i) bytes l)
-        ∙ ap (λ (x : Place). not (boundary d (x .column)) && eqb (getD bytes (x .row * (d - 1) + (x .column - 1)) 0) 1) (place-index h d s q i)
-        ∙ ap (λ (t : Bool). not t && eqb (getD bytes (q .row * (d - 1) + (q .column - 1)) 0) 1) (not-end d (q .column) a b)
+        same-defects (top-at T (p .window) g (index-within h d r q i) defects l)
+        ∙ ap (λ (x : Place). not (boundary d (x .column)) && eqb (getD defects (x .row * (d - 1) + (x .column - 1)) 0) 1) (place-index h d s q i)
+        ∙ ap (λ (t : Bool). not t && eqb (getD defects (q .row * (d - 1) + (q .column - 1)) 0) 1) (not-end d (q .column) a b)
 
     -- OF EACH SHEET
 
@@ -93,9 +93,9 @@ module _ (T : Table) (p : Played) (bytes : List ℕ) where
       defect-left : a .round < count → defective after a ≡ defective p a
       unfolding rounded
       defect-left m =
-          let e = counts T p bytes in
+          let e = counts T p defects in
           let m' : a .round < length (after .receipts) = omega arith in
-          left-defect after a m' ∙ ap (λ (x : Receipt). eqb (getD (x .escapes) (entry p a) 0) 1) (old-receipt T p bytes (a .round) m) ∙ sym (left-defect p a m)
+          left-defect after a m' ∙ ap (λ (x : Receipt). eqb (getD (x .escapes) (entry p a) 0) 1) (old-receipt T p defects (a .round) m) ∙ sym (left-defect p a m)
 
       -- the bottom sheet: standing before, escaped after
       entry-lt : entry p a < detectorsOf h d
@@ -110,10 +110,10 @@ module _ (T : Table) (p : Played) (bytes : List ℕ) where
       escapes-after : a .round ≡ count → defective after a ≡ defectAt (s - 1)
       unfolding rounded escaping
       escapes-after e =
-          let c = counts T p bytes in
+          let c = counts T p defects in
           let m : a .round < length (after .receipts) = omega arith in
           left-defect after a m
-          ∙ ap (λ (x : Receipt). eqb (getD (x .escapes) (entry p a) 0) 1) (ap (λ (k : ℕ). receipt after k) e ∙ new-receipt T p bytes)
+          ∙ ap (λ (x : Receipt). eqb (getD (x .escapes) (entry p a) 0) 1) (ap (λ (k : ℕ). receipt after k) e ∙ new-receipt T p defects)
           ∙ ap (λ (x : ℕ). eqb x 1) (getD-by (λ k. bit (at (p .window) (indexOf h d (detectorAt d (s - 1) k)) .defect)) (detectorsOf h d) (entry p a) 0 entry-lt)
           ∙ bit-one (at (p .window) (indexOf h d (detectorAt d (s - 1) (entry p a))) .defect)
           ∙ ap (λ (q : Place). at (p .window) (indexOf h d q) .defect) (entry-at (s - 1))
@@ -122,11 +122,11 @@ module _ (T : Table) (p : Played) (bytes : List ℕ) where
       stands : count ≤ a .round → a .round ≤ last p → defective p a ≡ defectAt (last p - a .round)
       stands low high = let t = three p r in held-defect p a low high (omega arith)
 
-      stands-after : count < a .round → a .round ≤ last p + 1 → defective after a ≡ at (rounded T (p .window) bytes) (indexOf h d (placeNow after a)) .defect
+      stands-after : count < a .round → a .round ≤ last p + 1 → defective after a ≡ at (rounded T (p .window) defects) (indexOf h d (placeNow after a)) .defect
       unfolding rounded
       stands-after low high =
           let t = three p r in
-          let c = counts T p bytes in
+          let c = counts T p defects in
           held-defect after a (omega arith) (omega arith) (omega arith)
 
       -- no defect of a round already received changes
@@ -146,21 +146,21 @@ module _ (T : Table) (p : Played) (bytes : List ℕ) where
               let y : count ≤ a .round = omega arith in
               let z : a .round ≤ last p + 1 = omega arith in
               let m : last p - a .round + 1 < s = omega arith in
-              let j : last after - a .round ≡ last p - a .round + 1 = lower-than T p bytes (a .round) high in
+              let j : last after - a .round ≡ last p - a .round + 1 = lower-than T p defects (a .round) high in
               stands-after x z
-              ∙ ap (λ (k : ℕ). at (rounded T (p .window) bytes) (indexOf h d (record { depth = k; row = a .row; column = a .column })) .defect) j
+              ∙ ap (λ (k : ℕ). at (rounded T (p .window) defects) (indexOf h d (record { depth = k; row = a .row; column = a .column })) .defect) j
               ∙ sunk-defect (placeNow p a) (record { depth = m; row = row; column = omega arith })
               ∙ sym (stands y high)
 
       -- the new round's are those received
-      pub new-defect : a .round ≡ last p + 1 → defective after a ≡ eqb (getD bytes (entry p a) 0) 1
+      pub new-defect : a .round ≡ last p + 1 → defective after a ≡ eqb (getD defects (entry p a) 0) 1
       new-defect e =
           let t = three p r in
-          let c = later T p bytes in
+          let c = later T p defects in
           let x : count < a .round = omega arith in
           let y : a .round ≤ last p + 1 = omega arith in
           let j : last after - a .round ≡ 0 = omega arith in
           let z : 0 < s = omega arith in
           stands-after x y
-          ∙ ap (λ (k : ℕ). at (rounded T (p .window) bytes) (indexOf h d (record { depth = k; row = a .row; column = a .column })) .defect) j
+          ∙ ap (λ (k : ℕ). at (rounded T (p .window) defects) (indexOf h d (record { depth = k; row = a .row; column = a .column })) .defect) j
           ∙ top-defect (record { depth = 0; row = a .row; column = a .column }) (record { depth = z; row = row; column = omega arith }) refl west east

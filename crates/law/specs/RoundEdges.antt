@@ -30,9 +30,9 @@ use Rattle.law.specs.Conserved.{edged, slotOf, corrected, left-edge, hel
 use Rattle.law.specs.Layered.{Layered}
 use Rattle.law.specs.LayerEdges.{way, way-opposed, edged-in, edged-clear, named-inside}
 
-module _ (T : Table) (S : Suited T) (L : Layered T) (p : Played) (bytes : List ℕ) (r : Ranged (height p) (distance p)) where
+module _ (T : Table) (S : Suited T) (L : Layered T) (p : Played) (defects : List ℕ) (r : Ranged (height p) (distance p)) where
   abbrev after : Played
-  after = taken T p bytes
+  after = taken T p defects
 
   abbrev count : ℕ
   count = length (p .receipts)
@@ -57,9 +57,9 @@ module _ (T : Table) (S : Suited T) (L : Layered T) (p : Played) (bytes : List �
     edge-left : n < count → corrected T after n i ≡ corrected T p n i
     unfolding rounded
     edge-left m =
-        let e = counts T p bytes in
+        let e = counts T p defects in
         let m' : n < length (after .receipts) = omega arith in
-        left-edge T after n i m' ∙ ap (λ (x : Receipt). eqb (getD (x .edges) i 0) 1) (old-receipt T p bytes n m) ∙ sym (left-edge T p n i m)
+        left-edge T after n i m' ∙ ap (λ (x : Receipt). eqb (getD (x .edges) i 0) 1) (old-receipt T p defects n m) ∙ sym (left-edge T p n i m)
 
     abbrev bottomBit : Bool
     bottomBit = getD (p .window .correction) (edgeSlot T h d (s - 1) (edgeOf h d i)) false
@@ -68,10 +68,10 @@ module _ (T : Table) (S : Suited T) (L : Layered T) (p : Played) (bytes : List �
     bottom-after : n ≡ count → corrected T after n i ≡ bottomBit
     unfolding rounded leaving
     bottom-after e =
-        let c = counts T p bytes in
+        let c = counts T p defects in
         let m : n < length (after .receipts) = omega arith in
         left-edge T after n i m
-        ∙ ap (λ (x : Receipt). eqb (getD (x .edges) i 0) 1) (ap (λ (k : ℕ). receipt after k) e ∙ new-receipt T p bytes)
+        ∙ ap (λ (x : Receipt). eqb (getD (x .edges) i 0) 1) (ap (λ (k : ℕ). receipt after k) e ∙ new-receipt T p defects)
         ∙ ap (λ (x : ℕ). eqb x 1) (getD-by (λ k. bit (getD (p .window .correction) (edgeSlot T h d (s - 1) (edgeOf h d k)) false)) (layerEdgesOf h d) i 0 l)
         ∙ bit-one bottomBit
 
@@ -94,13 +94,13 @@ module _ (T : Table) (S : Suited T) (L : Layered T) (p : Played) (bytes : List �
       j = last p - n
 
       lower-by : last after - n ≡ j + 1
-      lower-by = lower-than T p bytes n high
+      lower-by = lower-than T p defects n high
 
       stays-clear : Clear (way T h d i .sheet) j → pending T after n i ≡ pending T p n i
       unfolding rounded
       stays-clear c =
           let t = three p r in
-          let e = counts T p bytes in
+          let e = counts T p defects in
           let b : j < s = omega arith in
           let a' : n ≤ last after = omega arith in
           let b' : last after - n < s = omega arith in
@@ -123,7 +123,7 @@ module _ (T : Table) (S : Suited T) (L : Layered T) (p : Played) (bytes : List �
 
       edge-stays : corrected T after n i ≡ corrected T p n i
       edge-stays =
-          let e = counts T p bytes in
+          let e = counts T p defects in
           held-edge T after n i (omega arith) ∙ ⊎-elim stays-top stays-clear (order (j + way T h d i .sheet .more) (way T h d i .sheet .less)) ∙ sym (held-edge T p n i (omega arith))
 
     -- no bit of a layer already received changes
@@ -137,7 +137,7 @@ module _ (T : Table) (S : Suited T) (L : Layered T) (p : Played) (bytes : List �
     pub new-edge : n ≡ last p + 1 → corrected T after n i ≡ false
     unfolding rounded
     new-edge e =
-        let c = counts T p bytes in
+        let c = counts T p defects in
         let t = three p r in
         let g : length (after .receipts) ≤ n = omega arith in
         let z : last after - n ≡ 0 = omega arith in

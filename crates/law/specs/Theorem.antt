@@ -39,7 +39,7 @@ counted : (T : Table) (sh : Shape) → Invariant T (Counted sh)
 unfolding rounded grown merged measuring
 counted T sh =
     record {
-      round = λ p bytes k st bits i. record { shape = i .shape; next = let n = i .next in let m = later T p bytes in omega arith };
+      round = λ p defects k st bits i. record { shape = i .shape; next = let n = i .next in let m = later T p defects in omega arith };
       replace = λ p bytes i. record { shape = i .shape; next = i .next };
       grow = λ p k st i. record { shape = i .shape; next = i .next };
       merging = λ p k st i. record { shape = i .shape; next = i .next };

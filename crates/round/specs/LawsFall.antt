@@ -66,12 +66,12 @@ module _ (h d s : ℕ) (r : Ranged h d) (e : s ≡ sheetsOf d) where
 
 -- A NODE OF THE NEW TOP SHEET
 
-module _ (h d : ℕ) (bytes : List ℕ) (q : Place) (m : ℕ) (n : m ≡ numberOf h d q) where
-  pub receive-side : boundary d (q .column) ≡ true → alone m false ≡ topNode h d bytes q
+module _ (h d : ℕ) (defects : List ℕ) (q : Place) (m : ℕ) (n : m ≡ numberOf h d q) where
+  pub receive-side : boundary d (q .column) ≡ true → alone m false ≡ topNode h d defects q
   unfolding topNode
   receive-side e = rw (e, n)
 
-  pub receive-inner : boundary d (q .column) ≡ false → alone m (eqb (getD bytes (q .row * (d - 1) + (q .column - 1)) 0) 1) ≡ topNode h d bytes q
+  pub receive-inner : boundary d (q .column) ≡ false → alone m (eqb (getD defects (q .row * (d - 1) + (q .column - 1)) 0) 1) ≡ topNode h d defects q
   unfolding topNode
   receive-inner e = rw (e, n)
 
@@ -84,12 +84,12 @@ detector-lt h d k q i e =
 
 -- WHAT FALLS INTO A NODE
 
-module _ (w : Window) (bytes : List ℕ) (g : ℕ) where
-  pub fallen-top : (q : Place) (v : Node) → g < sheet w → q ≡ place w g → v ≡ topNode (w .shape .height) (w .shape .distance) bytes q → v ≡ fallenNode w bytes g
+module _ (w : Window) (defects : List ℕ) (g : ℕ) where
+  pub fallen-top : (q : Place) (v : Node) → g < sheet w → q ≡ place w g → v ≡ topNode (w .shape .height) (w .shape .distance) defects q → v ≡ fallenNode w defects g
   unfolding fallenNode
   fallen-top q v l e f = f ∙ rw (lt-ltb g (sheet w) l, e)
 
-  pub fallen-low : (v : Node) → sheet w ≤ g → v ≡ sunk (w .shape .height) (w .shape .distance) (at w (g - sheet w)) → v ≡ fallenNode w bytes g
+  pub fallen-low : (v : Node) → sheet w ≤ g → v ≡ sunk (w .shape .height) (w .shape .distance) (at w (g - sheet w)) → v ≡ fallenNode w defects g
   unfolding fallenNode
   fallen-low v l f = f ∙ rw (le-ltb g (sheet w) l)
 
