@@ -39,9 +39,13 @@ impl Accounted {
     }
 
     /// A round was received with these defects. The one that leaves the window has to be accounted for by what is in the
-    /// buffers.
+    /// buffers; with an absent one nothing leaves.
     fn received(&mut self, defects: &[u8], edges: &[u8], escapes: &[u8]) {
         let sheet = self.window.sheet.clone();
+        if self.window.absent(sheet.sheets()) {
+            let zero = edges.iter().chain(escapes).all(|&byte| byte == 0);
+            assert!(zero, "{:?}: an absent round leaves something", sheet.shape);
+        }
         let mut left = self.open.pop_back().expect("a window has sheets");
         self.open.push_front(vec![false; sheet.nodes()]);
         add(&sheet, &mut self.open[0], defects);
@@ -55,10 +59,11 @@ impl Accounted {
         settled(&sheet, &left);
     }
 
-    /// No defect is lost; at rest, every cluster has its root; and the last measured sheet is that of the calls. After any
-    /// call.
+    /// No defect of a supplied round is lost, and absent rounds have nothing; at rest, every cluster has its root; and the
+    /// last measured sheet is that of the calls. After any call.
     pub fn check(&self) {
         let sheet = &self.window.sheet;
+        assert!(self.window.absent_are_fresh(), "{:?}: an absent round", sheet.shape);
         let measured = self.window.measured.iter().map(|&bit| u8::from(bit));
         assert!(measured.eq(self.measured.iter().copied()), "{:?}: the last measured sheet", sheet.shape);
         let mut open = self.open.clone();

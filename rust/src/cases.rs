@@ -1,8 +1,9 @@
 //! The cases that the tests go through.
 
 use crate::decoder::Window;
+use crate::noise::{stream, Noise};
 use crate::random::Random;
-use crate::streams::{Shape, DISTANCES, HEIGHTS};
+use crate::streams::{number_bytes, Shape, DISTANCES, HEIGHTS};
 
 // Random inputs of each kind; the tests count them. Each is compared in many calls: cut short, damaged, at
 // every offset.
@@ -47,6 +48,27 @@ pub fn shapes() -> Vec<(u32, u32, Shape)> {
         HEIGHTS.flat_map(|h| DISTANCES.map(move |d| (h, d, Shape::new(h, d).expect("both are in range")))).collect();
     assert_eq!(all.len(), 210);
     all
+}
+
+/// Runs a test on streams of 3s rounds of each shape, more of a small one. Those with little noise begin with a lone
+/// defect, at the last detector, and two empty rounds.
+pub fn each_start(seed: u64, mut run: impl FnMut(Shape, &[u8], bool)) {
+    let shapes = shapes();
+    each_case(seed, 3 * shapes.len(), |case, random| {
+        let (_, _, shape) = shapes[case % shapes.len()];
+        let (chance, lone) = [(1_000, true), (10_000, false), (50_000, false)][case / shapes.len()];
+        let (rounds, start) = if lone {
+            (3, [vec![1], number_bytes(shape.detectors() as u32 - 1), vec![0, 0]].concat())
+        } else {
+            (0, vec![])
+        };
+        for _ in 0..1 + 20 / (shape.height * shape.distance) {
+            let noise = Noise::any(chance, random);
+            let mut input = stream(shape, 3 * shape.sheets() - rounds, noise, random);
+            input.splice(2..2, start.clone());
+            run(shape, &input, lone);
+        }
+    });
 }
 
 /// A fresh window, and an edge and an escape buffer that fit it.

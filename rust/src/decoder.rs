@@ -1,5 +1,5 @@
-//! A second decoder, written from document 01 alone. The window is a queue of layers, the top one first: a round takes
-//! the last one out and puts a new one in front. A mark is a root by its round, so falling leaves it as it is.
+//! A second decoder, written from documents 01 and 02 alone. The window is a queue of layers, the top one first: a round
+//! takes the last one out and puts a new one in front. A mark is a root by its round, so falling leaves it as it is.
 
 use crate::decoding::{self, number_of, Decoded, Decoder, Ran, BUDGET};
 use crate::streams::Shape;
@@ -209,12 +209,34 @@ impl Window {
         self.layers.len() - 1
     }
 
-    /// A node's edges, in the scan order: the direction, the node there, and the edge.
+    /// Whether a depth's round is absent, also the ghost sheet's: none was supplied before round s.
+    pub fn absent(&self, depth: usize) -> bool {
+        self.round_at(depth) < self.sheet.sheets() as i64
+    }
+
+    /// How many sheets are there, from the top.
+    pub fn present(&self) -> usize {
+        (0..self.layers.len()).filter(|&depth| !self.absent(depth)).count()
+    }
+
+    /// Whether absent rounds have fresh layers.
+    pub fn absent_are_fresh(&self) -> bool {
+        let mut absent = self.layers.iter().enumerate().skip(self.present());
+        absent.all(|(depth, layer)| *layer == self.sheet.fresh(self.round_at(depth)))
+    }
+
+    /// The nodes, sheet by sheet from the top, by depth and place.
+    fn places(&self) -> impl Iterator<Item = (usize, usize)> + '_ {
+        (0..self.layers.len()).flat_map(|depth| (0..self.sheet.nodes()).map(move |place| (depth, place)))
+    }
+
+    /// A node's edges, in the scan order: the direction, the node there, and the edge. None leads to an absent round, or
+    /// from one.
     pub fn links(&self, depth: usize, node: usize) -> impl Iterator<Item = (Way, [usize; 2], [usize; 2])> + '_ {
         self.sheet.links[node].iter().filter_map(move |link| {
             let there = depth.checked_add_signed(link.sheets).filter(|&there| there <= self.bottom())?;
             let layer = depth.checked_add_signed(link.layers)?;
-            Some((link.way, [there, link.node], [layer, link.edge]))
+            (!self.absent(depth.max(there))).then_some((link.way, [there, link.node], [layer, link.edge]))
         })
     }
 
@@ -276,14 +298,13 @@ impl Window {
 
     pub fn grow(&mut self) -> Result<(), u8> {
         refuse(self.stage != Stage::ToGrow, 22)?;
-        for depth in 0..self.layers.len() {
-            for (number, span) in self.sheet.spans.iter().enumerate() {
-                let Some(far) = depth.checked_sub(span.above.into()) else { continue };
-                let ends = [self.layers[depth].nodes[span.near].active, self.layers[far].nodes[span.far].active];
-                let gained = ends.into_iter().map(u8::from).sum::<u8>();
-                let edge = &mut self.layers[depth].edges[number];
-                edge.halves = (edge.halves + gained).min(2);
-            }
+        // An edge with two active ends comes twice.
+        let active = self.places().filter(|&(depth, place)| self.layers[depth].nodes[place].active);
+        let gaining: Vec<_> =
+            active.flat_map(|(depth, place)| self.links(depth, place).map(|(_, _, edge)| edge)).collect();
+        for [layer, edge] in gaining {
+            let halves = &mut self.layers[layer].edges[edge].halves;
+            *halves = (*halves + 1).min(2);
         }
         let bottom = self.bottom();
         for node in self.layers[bottom].nodes.iter_mut().filter(|node| node.pointer == Some(Way::Down)) {
@@ -296,9 +317,8 @@ impl Window {
 
     /// Of each node, sheet by sheet from the top. No merging step changes it.
     pub fn grown(&self) -> Vec<Grown> {
-        let places = (0..self.layers.len()).flat_map(|depth| (0..self.sheet.nodes()).map(move |place| (depth, place)));
         let grown = |&(_, _, [layer, edge]): &(Way, [usize; 2], [usize; 2])| self.layers[layer].edges[edge].halves == 2;
-        places
+        self.places()
             .map(|(depth, place)| self.links(depth, place).filter(grown).map(|(way, there, _)| (way, there)).collect())
             .collect()
     }

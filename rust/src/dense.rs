@@ -1,6 +1,6 @@
 //! A plain dense decoder, for the benchmark: flat arrays over all nodes of the window, node
 //! (depth × h + row) × (d + 1) + column, and every step goes through all of them. It is for streams of fewer than 2^32
-//! rounds, and counts none.
+//! rounds, and counts them only until they fill its window.
 
 use crate::decoding::{self, Decoded, Decoder, Ran, BUDGET};
 use crate::streams::Shape;
@@ -29,15 +29,17 @@ struct Node {
 
 /// Edge entries stand at 3 × node + kind of the west, north or lower end.
 pub struct Dense {
-    /// Nodes of a sheet.
+    /// Nodes of a sheet, and of all sheets that are there: those of supplied rounds.
     sheet: usize,
+    present: usize,
     /// From a node to its neighbour in each direction, and from three times the node to the edge.
     to_node: [isize; 6],
     to_edge: [isize; 6],
     /// The document's numbers, and what falling by a sheet makes of each.
     numbers: Vec<u16>,
     fallen: Vec<u16>,
-    /// Directions in which there is an edge, a bit for each; `open` those where it has growth 2.
+    /// Directions in which there is an edge once all sheets are there, a bit for each; down is set only when the sheet below
+    /// is, so nothing reaches an absent one. `open` are those where it has growth 2.
     ways: Vec<u8>,
     open: Vec<u8>,
     nodes: Vec<Node>,
@@ -90,7 +92,7 @@ impl Dense {
                         column > 0,
                         column < d,
                         detector && row + 1 < h,
-                        detector && depth + 1 < sheets,
+                        false,
                         detector && depth > 0,
                     ];
                     ways.push(there.iter().rev().fold(0, |mask, &edge| mask << 1 | u8::from(edge)));
@@ -107,6 +109,7 @@ impl Dense {
         let nodes: Vec<Node> = numbers.iter().map(|&number| fresh(number)).collect();
         Dense {
             sheet,
+            present: 0,
             to_node: [-row_step, -1, 1, row_step, sheet_step, -sheet_step],
             to_edge: [1 - 3 * row_step, -3, 0, 1, 3 * sheet_step + 2, 2],
             numbers,
@@ -130,7 +133,19 @@ impl Dense {
         (3 * node).wrapping_add_signed(self.to_edge[way])
     }
 
+    /// One sheet more is there, until all are. Its nodes are never active before that.
+    fn supply(&mut self) {
+        if self.present == self.nodes.len() {
+            return;
+        }
+        if let Some(above) = self.present.checked_sub(self.sheet) {
+            self.detectors.iter().for_each(|node| self.ways[above + node] |= 1 << DOWN);
+        }
+        self.present += self.sheet;
+    }
+
     fn round(&mut self, bytes: &[u8], edges: &mut [u8], escapes: &mut [u8]) {
+        self.supply();
         let kept = self.nodes.len() - self.sheet;
         for (byte, entry) in edges.iter_mut().zip(&self.edges) {
             *byte = self.correction[3 * kept + entry].into();
@@ -238,9 +253,9 @@ impl Dense {
         lowest < mark
     }
 
-    /// A boundary has no edge up or down.
+    /// A boundary has one edge.
     fn detector(&self, node: usize) -> bool {
-        self.ways[node] & (1 << UP | 1 << DOWN) != 0
+        !self.ways[node].is_power_of_two()
     }
 }
 

@@ -94,6 +94,8 @@ impl Image {
         if (self.next as usize) < sheet.sheets() {
             return None;
         }
+        // In stage to grow a bottom detector's pointer may lead to the sheet that left, unless its round was absent.
+        let lost = self.stage == Stage::ToGrow && !window.absent(sheet.sheets());
         // Roots by their numbers, those of the ghost sheet too.
         let mut roots = vec![window.root(0, 0); (sheet.sheets() + 1) * sheet.nodes()];
         for depth in 0..=sheet.sheets() {
@@ -114,7 +116,7 @@ impl Image {
                     0 => None,
                     code => Some(*WAYS.get(usize::from(code) - 1)?),
                 };
-                let lost = self.stage == Stage::ToGrow && depth + 1 == sheet.sheets() && sheet.detector(place);
+                let lost = lost && depth + 1 == sheet.sheets() && sheet.detector(place);
                 let fits = |way| window.links(depth, place).any(|(along, ..)| along == way) || lost && way == Way::Down;
                 if !pointer.is_none_or(fits) || entry.defect && !sheet.detector(place) {
                     return None;
@@ -143,7 +145,7 @@ impl Image {
         let zero = left.nodes.iter().all(|&node| node == UNUSED)
             && left.growth.iter().all(|&halves| halves == 0)
             && left.correction.iter().chain(&left.measured).all(|&bit| !bit);
-        zero.then_some(window)
+        (zero && window.absent_are_fresh()).then_some(window)
     }
 
     /// Makes a call on the window, and takes what it leaves, refused or not.

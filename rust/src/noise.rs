@@ -14,6 +14,13 @@ pub enum Noise {
     Phenomenological(usize),
 }
 
+impl Noise {
+    /// Of either kind.
+    pub fn any(chance: usize, random: &mut Random) -> Noise {
+        random.pick(&[Noise::Defects(chance), Noise::Phenomenological(chance)])
+    }
+}
+
 /// An input stream of so many rounds.
 pub fn stream(shape: Shape, rounds: usize, noise: Noise, random: &mut Random) -> Vec<u8> {
     let mut bytes = [number_bytes(shape.height as u32), number_bytes(shape.distance as u32)].concat();

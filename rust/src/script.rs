@@ -1,11 +1,13 @@
 //! The script that is stored with `crates/replay`.
 
+mod absent;
 mod raw;
 mod runs;
 
 pub use raw::{plain_list, raw_list};
 
 use crate::decoder::{Stage, Window};
+use crate::decoding::Decoder;
 use crate::image::{self, Entry, Image};
 use crate::random::Random;
 use crate::replay::{Player, LONGEST};
@@ -46,6 +48,7 @@ pub fn script() -> String {
     }
     script.in_order();
     script.ill_formed();
+    script.absent();
     script.edited();
     script.noisy();
     script.mixed();
@@ -69,6 +72,12 @@ impl Script {
 
     fn shape(&self) -> Shape {
         Shape::new(self.image().height.into(), self.image().distance.into()).expect("a shape in range")
+    }
+
+    /// A fresh window of the image's shape with its round number: it has the same edges.
+    fn outline(&self) -> Window {
+        let next = self.image().next;
+        Window { next, ..Window::open(self.shape()) }
     }
 
     /// A round call with buffers of the right lengths.
@@ -130,6 +139,12 @@ impl Script {
         for bytes in ["1", "0", "0", "0", "0"] {
             self.round(bytes);
             self.settle();
+        }
+        self.add("# 1 by 4, a defect at detector 2: nothing comes before the first round");
+        self.add("open 1 4");
+        for bytes in ["001", "000", "000", "000", "000", "000"] {
+            self.round(bytes);
+            self.add("run 99");
         }
     }
 
@@ -258,12 +273,12 @@ impl Script {
         let old = self.image().nodes[5];
         self.add(entry_line(5, Entry { mark: None, ..old }));
         self.settle();
-        self.add("# 15 by 15 has no unused node, but slots without an edge");
+        self.add("# 15 by 15 with all sheets there has no unused node, but slots without an edge");
         self.add("open 15 15");
-        for slot in [1, 2, 45, 10_797] {
-            self.try_halves(slot, 1);
-            self.try_flip(slot);
-        }
+        self.add("next 30");
+        // Growth or correction of each, for the script's length; 3 by 3 has both.
+        [1, 45].into_iter().for_each(|slot| self.try_halves(slot, 1));
+        [2, 10_797].into_iter().for_each(|slot| self.try_flip(slot));
         self.try_node(3_599, |node| node.defect = true);
         self.try_node(3_598, |node| node.pointer = 5);
         self.try_node(3_598, |node| node.mark = Some(3_840));
@@ -343,6 +358,9 @@ impl Script {
             self.add(format!("open {height} {distance}"));
             self.noise(call, &mut random, 40);
             self.settle();
+            // Two sheets there, or all, with the one below them absent or not.
+            let sheets = self.shape().sheets();
+            self.add(format!("next {}", sheets + random.pick(&[2, sheets, sheets, sheets + 1])));
             for turn in 0..3 {
                 if turn == 0 {
                     self.add(stage_line(random.pick(&[Stage::Rest, Stage::ToGrow, Stage::Merging, Stage::Merging])));
@@ -366,10 +384,9 @@ impl Script {
 
     /// An edit that mostly keeps the window well-formed.
     fn random_edit(&mut self, random: &mut Random) {
-        let shape = self.shape();
-        let window = Window::fresh(shape.height as u32, shape.distance as u32).expect("a shape in range");
+        let window = self.outline();
         let sheet = &window.sheet;
-        let (depth, place) = (random.below(sheet.sheets()), random.below(sheet.nodes()));
+        let (depth, place) = (random.below(window.present()), random.below(sheet.nodes()));
         let wild = random.one_in(100);
         let (ways, slots): (Vec<u8>, Vec<usize>) = window
             .links(depth, place)

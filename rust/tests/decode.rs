@@ -3,15 +3,15 @@
 //! and on edited windows.
 
 use baizeridge_tests::account::Accounted;
-use baizeridge_tests::cases::{each_case, shapes, CHANCES};
+use baizeridge_tests::cases::{each_case, each_start, shapes, CHANCES};
 use baizeridge_tests::compare;
 use baizeridge_tests::covered::Covered;
-use baizeridge_tests::decoder;
 use baizeridge_tests::decoding::{self, Decoded, DECODED};
 use baizeridge_tests::noise::{stream, Noise};
 use baizeridge_tests::random::Random;
 use baizeridge_tests::streams::{number_bytes, read_number, Done, Shape};
 use baizeridge_tests::tally::Tally;
+use baizeridge_tests::{decoder, dense};
 use std::collections::BTreeSet;
 
 /// All rounds of a stream.
@@ -23,10 +23,6 @@ fn note(covered: &mut Covered, shape: Shape, decoded: &Decoded) {
     covered.note(shape, &edges.collect::<Vec<_>>(), |_| true);
 }
 
-fn noise(chance: usize, random: &mut Random) -> Noise {
-    random.pick(&[Noise::Defects(chance), Noise::Phenomenological(chance)])
-}
-
 /// Decodes on both sides, with a few bytes to spare.
 fn decoded(input: &[u8], spare: usize) -> Decoded {
     let decoded = decoding::decode::<Accounted>(input);
@@ -36,7 +32,7 @@ fn decoded(input: &[u8], spare: usize) -> Decoded {
 
 /// Decodes a random stream to its end.
 fn decode_random(shape: Shape, rounds: usize, chance: usize, random: &mut Random, covered: &mut Covered) {
-    let input = stream(shape, rounds, noise(chance, random), random);
+    let input = stream(shape, rounds, Noise::any(chance, random), random);
     let decoded = decoded(&input, random.below(9));
     assert_eq!((decoded.status, decoded.rounds()), (DECODED, rounds));
     note(covered, shape, &decoded);
@@ -90,6 +86,22 @@ fn dense_noise() {
     }
 }
 
+/// Behind s empty rounds every sheet is there, and clusters grow down into them. That takes other steps than at the start:
+/// after a lone defect at the last detector always, but for distances 2 and 3.
+#[test]
+fn the_first_rounds_of_every_shape() {
+    let mut covered = Covered::default();
+    each_start(0x6669_7273, |shape, input, lone| {
+        let (sheets, first) = (shape.sheets(), decoded(input, 9));
+        assert_eq!((first.status, first.rounds()), (DECODED, 3 * sheets));
+        let later = dense::decode(&[&input[..2], &vec![0; sheets], &input[2..]].concat());
+        let differs = first.result[2..] != later.result[later.ends[sheets]..];
+        assert!(differs || !lone || shape.distance < 4, "{shape:?}: the steps at the start");
+        note(&mut covered, shape, &first);
+    });
+    assert_eq!(covered.shapes(), [210; 2]);
+}
+
 #[test]
 fn long_runs() {
     const LEVELS: [usize; 5] = [1_000, 10_000, 50_000, 200_000, 900_000];
@@ -141,7 +153,7 @@ fn damaged_streams() {
     each_case(0x6461_6d61, 5 * shapes.len(), |case, random| {
         let (_, _, shape) = shapes[case % shapes.len()];
         let rounds = random.below(2 + 60 / (shape.height * shape.distance));
-        let input = stream(shape, rounds, noise(random.pick(&CHANCES[..8]), random), random);
+        let input = stream(shape, rounds, Noise::any(random.pick(&CHANCES[..8]), random), random);
         assert_eq!(status(&input[..2], 3), DECODED);
         for (end, refusal) in faulty_ends(shape) {
             assert_eq!(status(&[&input[..], &end].concat(), random.below(9)), refusal);
@@ -164,7 +176,7 @@ fn small_buffers() {
     each_case(0x736d_616c, 4 * shapes.len(), |case, random| {
         let (_, _, shape) = shapes[case % shapes.len()];
         let rounds = 1 + random.below(2 + 100 / (shape.height * shape.distance));
-        let mut input = stream(shape, rounds, noise(random.pick(&CHANCES[..8]), random), random);
+        let mut input = stream(shape, rounds, Noise::any(random.pick(&CHANCES[..8]), random), random);
         if case % 2 == 1 {
             input.extend(random.pick(&[[0x80, 0x00], [1, 0x80]]));
         }
@@ -183,11 +195,13 @@ fn small_buffers() {
 
 #[test]
 fn printed_sessions() {
-    let sessions: [(&[u8], &[u8]); 3] = [
+    let sessions: [(&[u8], &[u8]); 4] = [
         (&[1, 3, 1, 0, 0, 0, 0], &[1, 3, 0, 0, 2, 0, 0, 1, 0, 0, 4, 1, 0, 0, 2]),
         (&[1, 3, 2, 0, 0, 0, 0, 0], &[1, 3, 0, 0, 2, 0, 0, 5, 0, 0, 1, 1, 1, 0, 1]),
         // A tie: west, edge 0, is committed.
         (&[1, 2, 1, 0, 0, 0, 0], &[1, 2, 0, 0, 2, 0, 0, 1, 0, 0, 3, 1, 0, 0, 2]),
+        // Nothing comes before the first round: the third takes 3 steps, and 4 behind empty rounds.
+        (&[1, 4, 1, 2, 0, 0, 0, 0, 0], &[1, 4, 0, 0, 2, 0, 0, 1, 0, 0, 3, 0, 0, 1, 0, 0, 1, 1, 3, 0, 2]),
     ];
     for (input, result) in sessions {
         assert_eq!(decoded(input, 9).result, result);

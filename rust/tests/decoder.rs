@@ -1,4 +1,4 @@
-//! The second decoder on what document 01 prints, and the law after every call.
+//! The second decoder on what document 01 prints and on the first rounds, and the law after every call.
 
 use baizeridge_tests::account::Accounted;
 use baizeridge_tests::cases::{self, each_case, opened, CHANCES};
@@ -25,6 +25,34 @@ fn first_session() {
 fn second_session() {
     let result = [[1, 3].as_slice(), &[0, 0, 2], &[0, 0, 5], &[0, 0, 1], &[1, 1, 0, 1]].concat();
     assert_eq!(decode(&[1, 3, 2, 0, 0, 0, 0, 0]), (DECODED, result));
+}
+
+/// A cluster at detector 2 that grew down would take 4 steps in the third round, as it does behind empty rounds.
+#[test]
+fn nothing_before_the_first_round() {
+    let commits = [[0, 0, 1].as_slice(), &[0, 0, 1], &[1, 3, 0, 2]].concat();
+    let first = [[1, 4, 0, 0, 2, 0, 0, 1, 0, 0, 3].as_slice(), &commits].concat();
+    assert_eq!(decode(&[1, 4, 1, 2, 0, 0, 0, 0, 0]), (DECODED, first));
+    let later = [[1, 4].as_slice(), &[0, 0, 1].repeat(5), &[0, 0, 2, 0, 0, 1, 0, 0, 4], &commits].concat();
+    assert_eq!(decode(&[1, 4, 0, 0, 0, 0, 0, 1, 2, 0, 0, 0, 0, 0]), (DECODED, later));
+}
+
+/// With each round one sheet more is there, until all are: its own edges, and those up to the sheet above.
+#[test]
+fn edges_are_there_with_their_rounds() {
+    for (height, distance, shape) in cases::shapes() {
+        let (mut window, mut edges, mut escapes) = opened(height, distance);
+        for round in 0..=2 * shape.sheets() {
+            let present = round.min(shape.sheets());
+            assert_eq!(window.present(), present);
+            let places = (0..shape.sheets()).flat_map(|depth| (0..window.sheet.nodes()).map(move |node| (depth, node)));
+            let links: usize = places.map(|(depth, node)| window.links(depth, node).count()).sum();
+            let upward = if present > 0 { shape.detectors() } else { 0 };
+            assert_eq!(links, 2 * (present * shape.edges() - upward));
+            window.round(&vec![0; shape.detectors()], &mut edges, &mut escapes).expect("a round");
+            assert_eq!(window.run(1), Ok(Ran::Rest(1)));
+        }
+    }
 }
 
 #[test]

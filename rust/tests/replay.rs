@@ -43,12 +43,16 @@ fn every_answer_occurs() {
     }
 }
 
+/// Lines without the window that they end with.
+fn answers<'a>(lines: impl IntoIterator<Item = &'a str>) -> Vec<&'a str> {
+    lines.into_iter().filter_map(|line| line.rsplitn(3, ' ').nth(2)).collect()
+}
+
 /// The lines of document 01's sessions and edges that are not proved, in the script's first part.
 #[test]
 fn the_document_s_lines_are_played() {
     let (part, _) = STDOUT.split_once("# the end\n").expect("the first part has an end");
-    let answers: Vec<&str> =
-        part.lines().filter(|line| !line.starts_with('#')).filter_map(|line| line.rsplitn(3, ' ').nth(2)).collect();
+    let answers = answers(part.lines().filter(|line| !line.starts_with('#')));
     let session = ["open done", "round done 00000 00", "run rest 2", "round done 00000 00", "run rest 1"];
     let expected = [
         &session[..],
@@ -59,6 +63,17 @@ fn the_document_s_lines_are_played() {
         &["edit", "round done 00000 00"],
     ];
     assert_eq!(answers, expected.concat());
+}
+
+/// The third round takes 3 steps.
+#[test]
+fn nothing_before_the_first_round() {
+    const EMPTY: &str = "round done 0000000 000";
+    let expected = [
+        ["open done", EMPTY, "run rest 2", EMPTY, "run rest 1", EMPTY, "run rest 3"].as_slice(),
+        &[EMPTY, "run rest 1", EMPTY, "run rest 1", "round done 0001000 000", "run rest 2"],
+    ];
+    assert_eq!(answers(part("1 by 4, a defect at detector 2: ")), expected.concat());
 }
 
 /// What is refused leaves the window, its last measured sheet too, and the buffers as they were.
@@ -99,6 +114,47 @@ fn parts() -> impl Iterator<Item = (&'static str, Vec<&'static str>)> {
     })
 }
 
+/// The lines of the only part whose comment starts so.
+fn part(start: &str) -> Vec<&'static str> {
+    let mut found = parts().filter(|(comment, _)| comment.starts_with(start));
+    let (Some((_, lines)), None) = (found.next(), found.next()) else { panic!("not one part: {start}") };
+    lines
+}
+
+/// The lines begin with so many edits, each of them refused 21 by every call and taken back.
+fn expect_faults(lines: &[&str], edits: usize) {
+    let tried: Vec<_> = lines.chunks_exact(6).take(edits).map(|lines| answers(lines.iter().copied())).collect();
+    assert_eq!(tried.len(), edits);
+    for answers in tried {
+        assert!(answers[1].starts_with("round refused 21 ") || answers[1].starts_with("raw refused 21 "));
+        assert_eq!(answers[2..5], ["grow refused 21", "merging refused 21", "run refused 21"]);
+        assert_eq!([answers[0], answers[5]], ["edit"; 2]);
+    }
+}
+
+/// Absent nodes, absent edges and pointers down to an absent sheet, in each stage; and pointers down from the bottom.
+#[test]
+fn faults_of_absent_rounds() {
+    expect_faults(&part("windows that are not well-formed, 2 by 2: no sheet is there")[1..], 6);
+    for (start, edits) in [("absent nodes", 7), ("absent edges: ", 8), ("down to an absent sheet", 2)] {
+        let stages: Vec<_> = parts().filter(|(comment, _)| comment.starts_with(start)).collect();
+        assert_eq!(stages.len(), 3);
+        stages.iter().for_each(|(_, lines)| expect_faults(lines, edits));
+    }
+    expect_faults(&part("to grow, the first round at the bottom: ")[1..], 2);
+    let cut = answers(part("the second round at the bottom: "));
+    assert_eq!(cut[1..3], ["edit", "grow done"]);
+    expect_faults(&part("used sheets made absent"), 2);
+}
+
+#[test]
+fn random_windows_are_mostly_well_formed() {
+    let mut calls = part("windows with random entries, played on");
+    calls.retain(|line| !line.starts_with("edit "));
+    let refused = calls.iter().filter(|line| line.contains(" refused 21 ")).count();
+    assert!(0 < refused && 10 * refused < calls.len(), "{refused} of {}", calls.len());
+}
+
 /// Both round calls are refused 21 for each kind of fault, in each stage.
 #[test]
 fn both_round_calls_meet_every_kind_of_fault() {
@@ -110,7 +166,7 @@ fn both_round_calls_meet_every_kind_of_fault() {
             kinds += 1;
         }
     }
-    assert_eq!(kinds, 3 * 9 + 3);
+    assert_eq!(kinds, 3 * 9 + 3 + 3 * 3 + 3);
 }
 
 /// A list with raw rounds, whose bytes are the sums modulo 2 of another list's defects, answers as that one.

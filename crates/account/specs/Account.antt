@@ -5,11 +5,10 @@ use Prim.Native.Nat.{ℕ, zero, suc, _+_, _-_, _*_, _%_, _≤_, _<_}
 use mathlib.Core.Path.{_≡_}
 use mathlib.Core.Bool.{Bool, true, _&&_}
 use mathlib.Core.List.{List, [], _∷_, _++_, map}
-use lib.Dec.{ltb, eqb}
+use lib.Dec.{eqb}
 use lib.ListN.{length, take, getD, replicate}
 use Rattle.refusal.specs.Answer.{done, valueOr}
 use Rattle.refusal.specs.Bytes.{Bytes}
-use Rattle.shape.specs.Choice.{if}
 use Rattle.shape.specs.Sizes.{sheetsOf}
 use Rattle.steps.specs.Steps.{Table}
 use Rattle.layers.specs.Layer.{edgeOf}
@@ -26,12 +25,13 @@ use Rattle.law.specs.Law.{Call, round, raw, grow, merging, run, Receipt, Played
 use Rattle.decoding.specs.Decoding.{finished, budget, Rounds, rounds, Decoded, behind, decoded}
 use Rattle.decoding.specs.Decoding as decoding
 
--- DEFECTS IN THE STREAMS. Rounds are numbered as in the law: from 0, as many empty ones as the window has sheets, then the input's. Result n, from
+-- DEFECTS IN THE STREAMS. Rounds are numbered as in the law: from 0, as many absent ones as the window has sheets, then the input's. Result n, from
 -- 0, has the edges of round n's layer and the escaped detectors of round n.
 
 module _ (sh : Shape) where
-  -- a detector of a sheet
-  pub record SheetDetector (a : Spot) : Type 0 where
+  -- a detector of a supplied round
+  pub record SuppliedDetector (a : Spot) : Type 0 where
+    pub supplied : sheetsOf (sh .distance) ≤ a .round
     pub row : a .row < sh .height
     pub west : 1 ≤ a .column
     pub east : a .column < sh .distance
@@ -42,9 +42,7 @@ module _ (sh : Shape) where
 
 -- the defect that the input has there
 abbrev pub receivedIn : Stream (List ℕ) → Spot → ℕ
-receivedIn input a =
-    let sheets = sheetsOf (input .shape .distance) in
-    if (ltb (a .round) sheets) 0 (getD (getD (input .records) (a .round - sheets) []) (entryIn (input .shape) a) 0)
+receivedIn input a = getD (getD (input .records) (a .round - sheetsOf (input .shape .distance)) []) (entryIn (input .shape) a) 0
 
 -- past the last result there is nothing
 abbrev pub noResult : Result
@@ -115,15 +113,18 @@ pub record Account (T : Table) (s : List ℕ) (d : Decoded) : Type 0 where
   -- The rounds that were decoded, and their results.
   pub input : Stream (List ℕ)
   pub output : Stream Result
-  -- NO DEFECT IS LOST. At every detector of every round that has left the window, and after k results that is rounds 0 to k - 1: the defect that
-  -- the input has there is, modulo 2, the number of edges in the output that end there, plus one if the output has it among the escaped.
-  pub settled : (a : Spot) → a .round < length (output .records) → SheetDetector (output .shape) a
+  -- NO DEFECT IS LOST. At every detector of every supplied round that has left the window (after k results rounds 0 to k - 1 have): the defect
+  -- that the input has there is, modulo 2, the number of edges in the output that end there, plus one if the output has it among the escaped.
+  pub settled : (a : Spot) → a .round < length (output .records) → SuppliedDetector (output .shape) a
       → receivedIn input a % 2 ≡ (endingIn output T a + bit (escapedIn output a)) % 2
-  -- At every detector of every round received, in the window or not: the same, plus the number of pending edges that end there, plus one if a
+  -- At every detector of every supplied round, in the window or not: the same, plus the number of pending edges that end there, plus one if a
   -- defect stands there now, in the window that the law's calls for the input leave.
-  pub conserved : (a : Spot) → a .round < sheetsOf (input .shape .distance) + length (input .records) → SheetDetector (input .shape) a
+  pub conserved : (a : Spot) → a .round < sheetsOf (input .shape .distance) + length (input .records) → SuppliedDetector (input .shape) a
       → receivedIn input a % 2
       ≡ (endingIn output T a + ending T (playedOf T input) (pending T (playedOf T input)) a + bit (standing (playedOf T input) a) + bit (escapedIn output a)) % 2
+  -- The results of absent rounds have nothing.
+  pub absent : (n : ℕ) → n < sheetsOf (output .shape .distance) → (i : ℕ)
+      → (getD (getD (output .records) n noResult .edges) i 0 ≡ 0) × (getD (getD (output .records) n noResult .escapes) i 0 ≡ 0)
   -- THE BYTES. What was written is the output's bytes, and it reads back as the output, to its last byte.
   pub writes : d .output ≡ resultBytes output
   pub output-fits : ResultFits output

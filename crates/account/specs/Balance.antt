@@ -1,13 +1,12 @@
 -- THE LAW IN THE STREAMS: its numbers are those that stand in the input and in the output. Assumes nothing.
 use Prim.Native.Nat.{ℕ, zero, suc, _+_, _-_, _%_, _≤_, _<_}
 use native.Mathlib.Omega.{arith}
-use mathlib.Core.Path.{_≡_, refl, sym, _∙_, ap, ap₂}
+use mathlib.Core.Path.{_≡_, refl, sym, _∙_, ap, ap₂, subst}
 use mathlib.Core.Bool.{Bool, true, false, _&&_}
 use mathlib.Core.List.{List, [], _∷_}
 use mathlib.Core.Logic.{⊎-elim}
-use lib.Dec.{ltb, eqb}
+use lib.Dec.{eqb}
 use lib.ListN.{length, getD, List·getD-eq-default}
-use Rattle.shape.specs.Choice.{if}
 use Rattle.shape.specs.Sizes.{inRange, sheetsOf, layerEdgesOf}
 use Rattle.steps.specs.Steps.{Table, step}
 use Rattle.shape.specs.Ranges.{Ranged, halves, ranged}
@@ -21,11 +20,11 @@ use Rattle.window.specs.Lists.{bit}
 use Rattle.window.specs.LawsLists.{and-not}
 use Rattle.window.specs.Window.{namer}
 use Rattle.closure.specs.Suited.{Suited}
-use Rattle.law.specs.Law.{Receipt, Played, noReceipt, Spot, ends, sum, height, distance, sheets, last, receipt, received, committed, escaped, inWindow, standing, Detector, pending, ending, Conserved}
+use Rattle.law.specs.Law.{Receipt, Played, NothingLeft, noReceipt, Spot, ends, sum, height, distance, sheets, last, receipt, received, committed, escaped, inWindow, standing, Detector, pending, ending, Conserved}
 use Rattle.law.specs.Layered.{Layered}
 use Rattle.law.specs.Bits.{refuted}
 use Rattle.law.specs.Spots.{ends-at, window-in, not-in-window}
-use Rattle.account.specs.Account.{receiptWith, receiptsOf, SheetDetector, entryIn, receivedIn, noResult, committedIn, escapedIn, endingIn}
+use Rattle.account.specs.Account.{receiptWith, receiptsOf, SuppliedDetector, entryIn, receivedIn, noResult, committedIn, escapedIn, endingIn}
 use Rattle.account.specs.Sums.{sum-same, sum-none, sum-less}
 
 -- RECEIPTS
@@ -65,8 +64,8 @@ module _ (T : Table) (p : Played) (sh : Shape) (rounds : List (List ℕ)) (resul
 
   received-is : (a : Spot) → receivedIn input a ≡ received p a
   received-is a =
-      ap (λ (x : Shape). if (ltb (a .round) (sheetsOf (x .distance))) 0 (getD (getD rounds (a .round - sheetsOf (x .distance)) []) (entryIn x a) 0)) (sym shape)
-      ∙ ap (λ (r : Receipt). if (ltb (a .round) (sheets p)) 0 (getD (r .defects) (entryIn (p .window .shape) a) 0)) (sym (receipt-at (a .round - sheets p)))
+      ap (λ (x : Shape). getD (getD rounds (a .round - sheetsOf (x .distance)) []) (entryIn x a) 0) (sym shape)
+      ∙ ap (λ (r : Receipt). getD (r .defects) (entryIn (p .window .shape) a) 0) (sym (receipt-at (a .round - sheets p)))
 
   committed-is : (n i : ℕ) → committed p n i ≡ committedIn output n i
   committed-is n i = ap (λ (r : Receipt). eqb (getD (r .edges) i 0) 1) (receipt-at n)
@@ -93,17 +92,22 @@ module _ (T : Table) (p : Played) (sh : Shape) (rounds : List (List ℕ)) (resul
         ∙ sum-less (inLayer sh) (length results) (last p + 1) (let k = long in omega arith) (λ n l.
         sum-none _ (edgesIn sh) (λ i m. no-bit _ (and-not _ (ends T n (edgeOf (sh .height) (sh .distance) i) a) (none-committed n i l))))
 
-  pub in-streams : Conserved T p → (a : Spot) → a .round < sheetsOf (sh .distance) + length rounds → SheetDetector sh a
+  pub in-streams : Conserved T p → (a : Spot) → a .round < sheetsOf (sh .distance) + length rounds → SuppliedDetector sh a
       → receivedIn input a % 2 ≡ (endingIn output T a + ending T p (pending T p) a + bit (standing p a) + bit (escapedIn output a)) % 2
   in-streams c a l i =
       let k = long in
       let e : p .window .shape .distance ≡ sh .distance = ap (λ (x : Shape). x .distance) shape in
       let f : p .window .shape .height ≡ sh .height = ap (λ (x : Shape). x .height) shape in
       let g : sheetsOf (p .window .shape .distance) ≡ sheetsOf (sh .distance) = ap sheetsOf e in
-      let d : Detector p a = record { arrived = omega arith; row = omega (arith, i .row); west = i .west; east = omega (arith, i .east) } in
+      let d : Detector p a = record { supplied = omega (arith, i .supplied); arrived = omega arith; row = omega (arith, i .row); west = i .west; east = omega (arith, i .east) } in
       ap (λ (n : ℕ). n % 2) (received-is a)
       ∙ c a d
       ∙ ap₂ (λ (n : ℕ) (b : Bool). (n + ending T p (pending T p) a + bit (standing p a) + bit b) % 2) (ending-is a) (escaped-is a)
+
+  -- absent rounds: what their receipts have
+  pub none-absent : ((n : ℕ) → n < sheets p → NothingLeft (receipt p n)) → (n : ℕ) → n < sheetsOf (sh .distance) → (i : ℕ)
+      → (getD (getD results n noResult .edges) i 0 ≡ 0) × (getD (getD results n noResult .escapes) i 0 ≡ 0)
+  none-absent a n l = subst NothingLeft (receipt-at n) (a n (subst (λ (x : Shape). n < sheetsOf (x .distance)) (sym shape) l))
 
   -- WHAT HAS LEFT THE WINDOW: nothing stands there, and no edge that is pending ends there
 
@@ -129,7 +133,7 @@ module _ (T : Table) (p : Played) (sh : Shape) (rounds : List (List ℕ)) (resul
     no-ending =
         sum-none _ (last p + 1) (λ n j. sum-none _ (layerEdgesOf (height p) (distance p)) (λ i m. no-bit _ (refuted _ (none-pending n i m))))
 
-    pub alone : Conserved T p → SheetDetector sh a → receivedIn input a % 2 ≡ (endingIn output T a + bit (escapedIn output a)) % 2
+    pub alone : Conserved T p → SuppliedDetector sh a → receivedIn input a % 2 ≡ (endingIn output T a + bit (escapedIn output a)) % 2
     alone c i =
         in-streams c a (omega arith) i
         ∙ ap₂ (λ (n : ℕ) (b : Bool). (endingIn output T a + n + bit b + bit (escapedIn output a)) % 2) no-ending none-standing

@@ -31,7 +31,7 @@ use Rattle.account.specs.Account.{callsOf, receiptsOf, playedOf, resumed
 use Rattle.account.specs.Follow.{Followed, followed, withoutRaw}
 use Rattle.account.specs.Resumed.{followed-resumed}
 use Rattle.account.specs.Front.{front-of}
-use Rattle.account.specs.Balance.{in-streams, alone}
+use Rattle.account.specs.Balance.{in-streams, none-absent, alone}
 
 -- THE FRESH WINDOW
 
@@ -139,6 +139,7 @@ module _ (T : Table) (S : Suited T) (L : Layered T) (s : List ℕ) (size : ℕ) 
           rests = ap (λ (p : Played). isRest (p .window .stage)) plays ∙ f .rests (fresh-rest sh);
           law = law;
           conserved = in-streams T (playedOf T input) sh (f .rounds) (f .results) shape receipts (f .each) (law .conserved);
+          absent = none-absent T (playedOf T input) sh (f .rounds) (f .results) shape receipts (f .each) (law .absent);
           settled = λ a k i. alone T (playedOf T input) sh (f .rounds) (f .results) shape receipts (f .each) S L (range sh next e) a (omega (arith, f .each)) (law .conserved) i;
         }
 

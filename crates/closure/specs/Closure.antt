@@ -58,7 +58,7 @@ module _ (T : Table) (S : Suited T) where
     kept-measuring bytes long = record { formed = measure T w bytes long (k .formed); sized = measure-sized T w bytes long (k .formed) (k .sized) }
 
     pub kept-grow : Kept T (grown T w)
-    kept-grow = record { formed = grow T w (k .formed); sized = grow-sized T w (S .room) (k .sized) }
+    kept-grow = record { formed = grow T (S .proper) w (k .formed); sized = grow-sized T w (S .room) (k .sized) }
 
     pub kept-merging : isMerging (w .stage) ≡ true → Kept T (merged T w)
     kept-merging st = record { formed = merging T w S (k .formed) st; sized = merging-sized T w (S .room) (k .sized) }

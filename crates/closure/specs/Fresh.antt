@@ -1,7 +1,7 @@
 -- THE FRESH WINDOW of a shape in range is well-formed. Assumes nothing.
-use Prim.Native.Nat.{ℕ, _+_, _*_, _<_}
+use Prim.Native.Nat.{ℕ, _+_, _*_, _≤_, _<_}
 use native.Mathlib.Omega.{arith}
-use mathlib.Core.Path.{_≡_, refl, _∙_}
+use mathlib.Core.Path.{_≡_, refl, _∙_, ap}
 use mathlib.Core.Bool.{Bool, true, false, _&&_, not}
 use borrow.Author.Tests.{lt-ltb}
 use lib.ListN.{replicate, length-replicate}
@@ -18,17 +18,14 @@ use Rattle.window.specs.declared.Stage.{Stage}
 use Rattle.window.specs.declared.Stage.the-variants.{Rest}
 use Rattle.closure.specs.Lists.{all-over, all-drop, other}
 use Rattle.closure.specs.Sized.{Sized, size-le}
-use Rattle.closure.specs.Facts.{own-lt, Fits, Slot, Facts, centre, formed}
+use Rattle.closure.specs.Facts.{own-lt, Fits, Slot, Facts, centre, formed, no-defect}
 use Rattle.closure.specs.After.{fresh-at}
 
 -- a cluster of its own fits in every stage
-pub alone-fits : (T : Table) (stage : Stage) (h d : ℕ) → Ranged h d → (g : ℕ) → g < nodesOf h d → (x : Bool) → defectFits d (placeAt h d g) x ≡ true
-    → Fits T stage h d (placeAt h d g) (alone (numberOf h d (placeAt h d g)) x)
-alone-fits T stage h d r g l x e = record { mark = lt-ltb _ _ (own-lt h d r g l); pointer = centre refl; defect = e }
-
-no-defect : (b : Bool) → not (b && false) ≡ true
-no-defect true = refl
-no-defect false = refl
+pub alone-fits : (T : Table) (stage : Stage) (h d there led : ℕ) → Ranged h d → (g : ℕ) → g < nodesOf h d → (x : Bool) → defectFits d (placeAt h d g) x ≡ true
+    → (there ≤ placeAt h d g .depth → x ≡ false) → Fits T stage h d there led (placeAt h d g) (alone (numberOf h d (placeAt h d g)) x)
+alone-fits T stage h d there led r g l x e a =
+    record { mark = lt-ltb _ _ (own-lt h d r g l); pointer = centre refl; defect = e; absent = λ m. ap (alone (numberOf h d (placeAt h d g))) (a m) }
 
 -- an empty slot, with an edge or without
 pub empty : (there : Bool) (n : ℕ) (c : Bool) → n ≡ 0 → c ≡ false → Slot there n c
@@ -44,7 +41,7 @@ module _ (T : Table) (sh : Shape) (e : inRange (sh .height) (sh .distance) ≡ t
       record {
         ranged = r;
         next = omega arith;
-        nodes = λ g l. rw (fresh-at sh g l) (alone-fits T Rest h d r g l false (no-defect (boundary d (placeAt h d g .column))));
+        nodes = λ g l. rw (fresh-at sh g l) (alone-fits T Rest h d _ _ r g l false (no-defect (boundary d (placeAt h d g .column))) (λ m. refl));
         slots = λ g kind l m. empty _ _ _ (getD-same {A = ℕ} 0 10800 (T .kinds * g + kind)) (getD-same false 10800 (T .kinds * g + kind));
         unusedNodes = all-over unusedNode (λ i. alone (numberOf h d (placeAt h d i)) false) (nodesOf h d) (replicate 3600 unused) (all-drop unusedNode unused refl (nodesOf h d) 3600);
         unusedGrowth = all-drop {A = ℕ} isEmpty 0 refl (T .kinds * nodesOf h d) 10800;

@@ -7,6 +7,8 @@ pub mod Facts
 pub mod Sight
 pub mod After
 pub mod Lower
+pub mod LowerNumbers
+pub mod PlainPointers
 pub mod Scan
 pub mod Fresh
 pub mod Round

@@ -2,29 +2,28 @@
 use Prim.Native.Nat.{ℕ, _+_, _-_, _*_, _≤_, _<_}
 use native.Mathlib.Nat.{mul-one}
 use native.Mathlib.Omega.{arith}
-use mathlib.Core.Path.{_≡_, refl, _∙_, ap}
-use mathlib.Core.Bool.{true}
+use mathlib.Core.Path.{_≡_, sym, _∙_, ap}
+use mathlib.Core.Bool.{false, _&&_}
 use mathlib.Core.Logic.{⊎-elim}
-use borrow.Author.Tests.{ltb-true, lt-ltb, eqb-true, not-true}
-use lib.Dec.{ltb}
+use borrow.Author.Tests.{ltb-true, lt-ltb, eq-eqb}
+use lib.Dec.{ltb, eqb}
+use Rattle.refusal.specs.Laws.{undone}
 use Rattle.shape.specs.Choice.{if, if-true, if-false, tell, order}
-use Rattle.shape.specs.Ranges.{Ranged, halves}
+use Rattle.shape.specs.Ranges.{Ranged, both}
 use Rattle.shape.specs.Sizes.{sheetsOf, nodesIn}
 use Rattle.shape.specs.Nodes.{indexOf, placeAt}
 use Rattle.shape.specs.Counting.{Inside}
 use Rattle.shape.specs.Totals.{total}
 use Rattle.shape.specs.LawsIndex.{index-place, place-index, index-inside}
-use Rattle.steps.specs.Steps.{Table, step, goes, across, still, alongRow, bothDetectors}
+use Rattle.steps.specs.Steps.{Table, step, across, falls}
 use Rattle.steps.specs.Joins.{Joins}
 use Rattle.steps.specs.Proper.{Proper, points}
 use Rattle.shape.specs.declared.Place.{Place}
 use Rattle.steps.specs.declared.Step.{Step}
-use Rattle.window.specs.Window.{size, sheet, present, place}
+use Rattle.window.specs.Window.{size, sheet, supplied, place}
 use Rattle.window.specs.Round.{loweredNumber}
-use Rattle.window.specs.declared.Stage.the-variants.{ToGrow}
 use Rattle.window.specs.declared.Window.{Window}
-use Rattle.closure.specs.Lists.{choice}
-use Rattle.closure.specs.Facts.{Pointing, along, out, inside-at}
+use Rattle.closure.specs.Facts.{inside-at}
 
 -- PLACES
 
@@ -52,45 +51,55 @@ module _ (w : Window) (r : Ranged (w .shape .height) (w .shape .distance)) (a g 
   above-lt = omega arith
 
   pub above-place : place w g ≡ lower (place w a)
-  above-place = place-lower (w .shape .height) (w .shape .distance) (present w) a g e (inside-at (w .shape .height) (w .shape .distance) r a above-lt)
+  above-place = place-lower (w .shape .height) (w .shape .distance) (sheetsOf (w .shape .distance)) a g e (inside-at (w .shape .height) (w .shape .distance) r a above-lt)
 
-  pub above-depth : place w a .depth + 1 < present w
+  pub above-depth : place w a .depth + 1 < sheetsOf (w .shape .distance)
   above-depth = let i = inside-at (w .shape .height) (w .shape .distance) r g l .depth in rw above-place at i
 
 -- EDGES
 
-module _ (h d s : ℕ) (q : Place) (l : q .depth + 1 < s) where
-  -- an edge, where the step does not leave the window
-  pub joins-lower : (st : Step) → Joins h d s st q → goes (st .sheet) (q .depth + 1) < s → Joins h d s st (lower q)
-  unfolding across
-  joins-lower st j m =
-      record {
-        from = record { depth = l; row = j .from .row; column = j .from .column };
-        to = record { depth = m; row = j .to .row; column = j .to .column };
-        row = j .row;
-        column = j .column;
-        sheet = omega (arith, j .sheet);
-        moves = j .moves;
-        kind = j .kind;
-      }
+-- an edge of k sheets is one of k + 1, one sheet lower
+pub joins-lower : (h d k : ℕ) (q : Place) (st : Step) → Joins h d k st q → Joins h d (k + 1) st (lower q)
+unfolding across
+joins-lower h d k q st j =
+    let a = j .from .depth in
+    let b = j .to .depth in
+    let c = j .sheet in
+    record {
+      from = record { depth = omega arith; row = j .from .row; column = j .from .column };
+      to = record { depth = omega arith; row = j .to .row; column = j .to .column };
+      row = j .row;
+      column = j .column;
+      sheet = omega arith;
+      moves = j .moves;
+      kind = j .kind;
+    }
 
--- a pointer along an edge: it goes on along one, or down out of the window from a detector at the bottom
-module _ (T : Table) (P : Proper T) (h d : ℕ) (q : Place) (l : q .depth + 1 < sheetsOf d) (p : ℕ) (j : Joins h d (sheetsOf d) (step T p) q) where
-  off-bottom : sheetsOf d ≤ goes (step T p .sheet) (q .depth + 1) → Pointing T ToGrow h d (lower q) p
-  unfolding across
-  off-bottom m =
-      let a = P .opposed p (points T p (j .moves)) .fall in
-      let b = j .to .depth in
-      let c = j .sheet in
-      let e : step T p .sheet .less < step T p .sheet .more = omega arith in
-      let level : alongRow (step T p) ≡ true → ⊥
-      = λ k. let z : step T p .sheet .less ≡ step T p .sheet .more = eqb-true _ _ (halves (still (step T p .row)) (still (step T p .sheet)) k .1) in omega arith in
-      out refl (omega arith)
-      (choice (alongRow (step T p)) (bothDetectors d (step T p) q) (j .kind) (λ k. absurd (level k)) (λ k. not-true _ (halves _ _ k .0)))
-      (lt-ltb _ _ e)
+-- and of any number of sheets that has both its ends
+pub joins-in : (h d k k' : ℕ) (q : Place) (st : Step) → Joins h d k st q → q .depth < k' → across st q .depth < k' → Joins h d k' st q
+joins-in h d k k' q st j a b =
+    record {
+      from = record { depth = a; row = j .from .row; column = j .from .column };
+      to = record { depth = b; row = j .to .row; column = j .to .column };
+      row = j .row;
+      column = j .column;
+      sheet = j .sheet;
+      moves = j .moves;
+      kind = j .kind;
+    }
 
-  pub pointing-lower : Pointing T ToGrow h d (lower q) p
-  pointing-lower = ⊎-elim (λ m. along (joins-lower h d (sheetsOf d) q l (step T p) j m)) off-bottom (order (goes (step T p .sheet) (q .depth + 1)) (sheetsOf d))
+-- an edge between supplied sheets that does not lead down from the bottom is one of the window
+pub joins-present : (T : Table) → Proper T → (h d next k : ℕ) (q : Place) (p : ℕ) → Joins h d k (step T p) q → k ≤ next - sheetsOf d → q .depth < sheetsOf d
+    → (eqb (q .depth + 1) (sheetsOf d) && falls T p) ≡ false → Joins h d (supplied d next (sheetsOf d)) (step T p) q
+unfolding across
+joins-present T P h d next k q p j u l e =
+    let a = j .from .depth in
+    let b = j .to .depth in
+    let c = j .sheet in
+    let o = P .opposed p (points T p (j .moves)) .fall in
+    ⊎-elim (λ m. joins-in h d k (supplied d next (sheetsOf d)) q (step T p) j (omega arith) (omega arith))
+    (λ m. absurd (undone (sym (both _ _ (eq-eqb (q .depth + 1) (sheetsOf d) (omega arith)) (lt-ltb (step T p .sheet .less) (step T p .sheet .more) (omega arith))) ∙ e)))
+    (order (across (step T p) q .depth) (sheetsOf d))
 
 -- NUMBERS
 

@@ -1,7 +1,7 @@
 -- MERGING keeps a window well-formed. Assumes nothing.
 use Prim.Native.Nat.{ℕ, _+_, _-_, _*_, _≤_, _<_}
 use native.Mathlib.Omega.{arith}
-use mathlib.Core.Path.{_≡_, refl, sym, _∙_, ap}
+use mathlib.Core.Path.{_≡_, refl, sym, _∙_, ap, subst}
 use mathlib.Core.Bool.{Bool, true, false, _&&_, not}
 use mathlib.Core.List.{List}
 use mathlib.Core.Logic.{⊎-elim}
@@ -14,8 +14,8 @@ use Rattle.shape.specs.Sizes.{sheetsOf, boundary, nodesIn}
 use Rattle.shape.specs.Nodes.{numberOf}
 use Rattle.steps.specs.Steps.{Table}
 use Rattle.window.specs.Lists.{byPlace, any, xor}
-use Rattle.window.specs.Window.{isRest, isMerging, namer, size, at, place, detector, to}
-use Rattle.window.specs.Merging.{syncedDefect, flipped, floods, stepped, seen, stepAt, flippedSlot, merged}
+use Rattle.window.specs.Window.{alone, isRest, isMerging, namer, size, supplied, ledTo, present, pointed, at, place, detector, to}
+use Rattle.window.specs.Merging.{nothing, syncedActive, arrivals, scan, flooded, syncedDefect, flipped, floods, stepped, seen, stepAt, flippedSlot, merged}
 use Rattle.window.specs.Formed.{markFits, unusedNode, wellFormed}
 use Rattle.window.specs.declared.Mark.{Mark}
 use Rattle.window.specs.declared.Mark.the-variants.{Reset, Root}
@@ -25,14 +25,14 @@ use Rattle.window.specs.declared.Node.{Node}
 use Rattle.window.specs.declared.Seen.{Seen}
 use Rattle.window.specs.declared.Window.{Window}
 use Rattle.closure.specs.Lists.{all-over, any-at, either}
-use Rattle.closure.specs.States.{merging-not-grow}
+use Rattle.closure.specs.States.{merging-led}
 use Rattle.closure.specs.Sized.{Sized, nodes-over, correction-over}
 use Rattle.closure.specs.Suited.{Suited}
-use Rattle.closure.specs.Edges.{edge}
-use Rattle.closure.specs.Facts.{Pointing, centre, along, out, Fits, Slot, Facts, facts, formed, own-lt, node-within, SlotOf}
-use Rattle.closure.specs.Sight.{seen-edge, seen-there, seen-grown}
+use Rattle.closure.specs.Edges.{edge, edge-absent}
+use Rattle.closure.specs.Facts.{Pointing, centre, along, Fits, Slot, Facts, facts, formed, own-lt, node-within, SlotOf}
+use Rattle.closure.specs.Sight.{seen-edge, seen-none, seen-there, seen-grown}
 use Rattle.closure.specs.After.{merged-at, flipped-slot}
-use Rattle.closure.specs.Scan.{Good, floods-good}
+use Rattle.closure.specs.Scan.{Good, floods-good, scan-none, arrivals-none}
 
 -- MARKS
 
@@ -58,6 +58,13 @@ synced true n ss e = still (n .defect) e
 merging-or-rest : (b : Bool) → b ≡ true → isMerging (if b Merging Rest) ≡ true
 merging-or-rest b e = rw e
 
+-- a fresh node that sees no edge
+fresh-step : (own : ℕ) (b : Bool) (ss : List Seen) → scan ss 0 false 0 false own ≡ flooded false 0 (Root own) false → arrivals ss false ≡ false
+    → stepped own b (alone own false) ss .node ≡ alone own false
+unfolding stepped floods syncedActive
+fresh-step own true ss s a = rw (s, a)
+fresh-step own false ss s a = rw s
+
 module _ (T : Table) (w : Window) where
   abbrev after : Stage
   after = if (any (size w) (λ g. stepAt T w g .busy)) Merging Rest
@@ -76,17 +83,38 @@ module _ (T : Table) (w : Window) where
     abbrev numbers : ℕ
     numbers = nodesIn h d (sheetsOf d + 1)
 
+    led-after : supplied d (w .next) (ledTo d after) ≡ present w
+    led-after = go (any (size w) (λ g. stepAt T w g .busy))
+      where
+        go : (b : Bool) → supplied d (w .next) (ledTo d (if b Merging Rest)) ≡ present w
+        go true = refl
+        go false = refl
+
+    led-is : pointed w ≡ present w
+    led-is = ap (supplied d (w .next)) (merging-led d (w .stage) st)
+
     module _ (g : ℕ) (l : g < size w) where
       abbrev P : ℕ → Type 0
-      P p = Pointing T after h d (place w g) p
-
-      stays : (p : ℕ) → Pointing T (w .stage) h d (place w g) p → P p
-      stays p (centre e) = centre e
-      stays p (along j) = along j
-      stays p (out a b c e) = absurd (merging-not-grow (w .stage) st a)
+      P p = Pointing T h d (present w) (place w g) p
 
       to-seen : (k : ℕ) → seen T w g k .grown ≡ true → P (k + 1)
-      to-seen k e = along (edge T h d (sheetsOf d) (k + 1) (place w g) (grown-there g k e))
+      to-seen k e = along (edge T h d (present w) (k + 1) (place w g) (grown-there g k e))
+
+      -- an absent node sees no edge, and stays as it is
+      module _ (m : present w ≤ place w g .depth) where
+        sees-nothing : (k : ℕ) → seen T w g k ≡ nothing
+        sees-nothing k = seen-none T w g k (edge-absent T h d (present w) (k + 1) (place w g) m)
+
+        absent-stays : stepAt T w g .node ≡ alone (numberOf h d (place w g)) false
+        unfolding stepAt stepped floods syncedActive byPlace
+        absent-stays =
+            let K = length (T .steps) in
+            let own = numberOf h d (place w g) in
+            let ss = byPlace K (seen T w g) in
+            let s = scan-none (seen T w g) false K 0 0 0 false own (λ j. ap (λ (x : Seen). x .grown) (sees-nothing j)) in
+            let a = arrivals-none (seen T w g) K 0 (λ j. ap (λ (x : Seen). x .pushes) (sees-nothing j)) in
+            ap (λ (n : Node). stepped own (detector w g) n ss .node) (f .nodes g l .absent m)
+            ∙ fresh-step own (detector w g) ss s a
 
       seen-mark : (k v : ℕ) → seen T w g k .grown ≡ true → seen T w g k .mark ≡ Root v → v < numbers
       seen-mark k v e m =
@@ -100,16 +128,17 @@ module _ (T : Table) (w : Window) where
           let n = f .nodes g l in
           floods-good P numbers (centre refl) (seen T w g) to-seen seen-mark (numberOf h d (place w g)) (at w g .unrooted) (at w g .pointer) (at w g .mark) (length (T .steps))
           (own-lt h d (f .ranged) g l)
-          (stays (at w g .pointer) (n .pointer))
+          (subst (λ (k : ℕ). Pointing T h d k (place w g) (at w g .pointer)) led-is (n .pointer))
           (mark-lt (w .stage) numbers (at w g .mark) (n .mark))
 
-      node-fits : Fits T after h d (place w g) (at (merged T w) g)
+      node-fits : Fits T after h d (present w) (supplied d (w .next) (ledTo d after)) (place w g) (at (merged T w) g)
       unfolding stepAt stepped
       node-fits =
           rw (merged-at T w g l)
           (record {
             mark = mark-by after numbers _ (λ e. merging-or-rest _ (any-at (λ i. stepAt T w i .busy) (size w) g l (either _ _ (either _ _ (good .reset e))))) (good .marked);
-            pointer = good .pointer;
+            pointer = subst (λ (k : ℕ). Pointing T h d k (place w g) (stepAt T w g .node .pointer)) (sym led-after) (good .pointer);
+            absent = absent-stays;
             defect = synced (boundary d (place w g .column)) (at w g) (byPlace (length (T .steps)) (seen T w g)) (f .nodes g l .defect);
           })
 

@@ -40,4 +40,4 @@ module _ (T : Table) (P : Window → Type 0)
 
 -- so a window stays well-formed
 pub run : (T : Table) → Suited T → (budget : ℕ) (w : Window) → wellFormed T w ≡ true → isRest (w .stage) ≡ false → wellFormed T (ran T budget w .window) ≡ true
-run T S budget w e st = run-keeps T (λ v. wellFormed T v ≡ true) (λ v i k. grow T v k) (λ v i k. merging T v S k i) budget w st e
+run T S budget w e st = run-keeps T (λ v. wellFormed T v ≡ true) (λ v i k. grow T (S .proper) v k) (λ v i k. merging T v S k i) budget w st e

@@ -3,15 +3,15 @@ use Prim.Native.Nat.{ℕ, zero, suc, _+_, _≤_, _<_}
 use native.Mathlib.Numerals.{add-one}
 use native.Mathlib.Omega.{arith}
 use native.Mathlib.Decide.{ℕ-discrete}
-use mathlib.Core.Path.{_≡_, refl, sym, _∙_, subst}
+use mathlib.Core.Path.{_≡_, refl, sym, _∙_, ap, subst}
 use mathlib.Core.Bool.{Bool, true, false}
 use mathlib.Core.Logic.{⊎-elim}
 use borrow.Author.Tests.{ltb-true, ltb-false}
 use lib.Dec.{ltb}
 use Rattle.refusal.specs.Laws.{undone}
 use Rattle.shape.specs.Choice.{if, if-true, if-false, tell}
-use Rattle.window.specs.Lists.{from, byPlace}
-use Rattle.window.specs.Merging.{onMark, flooded, scan, floods}
+use Rattle.window.specs.Lists.{from, byPlace, xor}
+use Rattle.window.specs.Merging.{onMark, flooded, scan, floods, arrivals}
 use Rattle.window.specs.declared.Mark.{Mark}
 use Rattle.window.specs.declared.Mark.the-variants.{Reset, Root}
 use Rattle.window.specs.declared.Seen.{Seen}
@@ -102,3 +102,14 @@ module _ (P : ℕ → Type 0) (N : ℕ) where
     unfolding floods byPlace
     floods-good own u p Reset n l a t = numbered true p own true a l
     floods-good own u p (Root m) n l a t = scanned-good u 0 n p false m _ a (t m refl) (scanned f u n 0 p false m)
+
+-- A NODE THAT SEES NO EDGE OF GROWTH 2 stays as it is
+pub scan-none : (f : ℕ → Seen) (u : Bool) (n i k p : ℕ) (b : Bool) (m : ℕ) → ((j : ℕ) → f j .grown ≡ false) → scan (from i n f) k u p b m ≡ flooded u p (Root m) b
+unfolding scan from
+scan-none f u zero i k p b m e = refl
+scan-none f u (suc n) i k p b m e = if-false (f i .grown) _ _ (e i) ∙ scan-none f u n (suc i) (k + 1) p b m e
+
+pub arrivals-none : (f : ℕ → Seen) (n i : ℕ) → ((j : ℕ) → f j .pushes ≡ false) → arrivals (from i n f) false ≡ false
+unfolding arrivals from
+arrivals-none f zero i e = refl
+arrivals-none f (suc n) i e = ap (λ (x : Bool). arrivals (from (suc i) n f) (xor false x)) (e i) ∙ arrivals-none f n (suc i) e

@@ -1,10 +1,11 @@
 -- Stages, and marks, are told apart. Assumes nothing.
 use Prim.Native.Nat.{ℕ}
 use native.Mathlib.Omega.{arith}
-use mathlib.Core.Path.{_≡_, sym}
+use mathlib.Core.Path.{_≡_, refl, sym}
 use mathlib.Core.Bool.{true}
 use Rattle.refusal.specs.Laws.{undone}
-use Rattle.window.specs.Window.{isRest, isToGrow, isMerging}
+use Rattle.shape.specs.Sizes.{sheetsOf}
+use Rattle.window.specs.Window.{isRest, isMerging, ledTo}
 use Rattle.window.specs.declared.Mark.the-variants.{Reset, Root}
 use Rattle.window.specs.declared.Stage.{Stage}
 use Rattle.window.specs.declared.Stage.the-variants.{Rest, ToGrow, Merging}
@@ -14,15 +15,16 @@ rest-not-merging Rest a b = undone (sym b)
 rest-not-merging ToGrow a b = undone (sym a)
 rest-not-merging Merging a b = undone (sym a)
 
-pub rest-not-grow : (stage : Stage) → isRest stage ≡ true → isToGrow stage ≡ true → ⊥
-rest-not-grow Rest a b = undone (sym b)
-rest-not-grow ToGrow a b = undone (sym a)
-rest-not-grow Merging a b = undone (sym a)
+-- other than in stage to grow, pointers lead to sheets of the window
+pub rest-led : (d : ℕ) (stage : Stage) → isRest stage ≡ true → ledTo d stage ≡ sheetsOf d
+rest-led d Rest e = refl
+rest-led d ToGrow e = absurd (undone (sym e))
+rest-led d Merging e = refl
 
-pub merging-not-grow : (stage : Stage) → isMerging stage ≡ true → isToGrow stage ≡ true → ⊥
-merging-not-grow Rest a b = undone (sym a)
-merging-not-grow ToGrow a b = undone (sym a)
-merging-not-grow Merging a b = undone (sym b)
+pub merging-led : (d : ℕ) (stage : Stage) → isMerging stage ≡ true → ledTo d stage ≡ sheetsOf d
+merging-led d Rest e = refl
+merging-led d ToGrow e = absurd (undone (sym e))
+merging-led d Merging e = refl
 
 -- a number is not reset, and no other number
 pub reset-not : (m : ℕ) → Reset ≡ Root m → ⊥

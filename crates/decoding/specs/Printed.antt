@@ -1,4 +1,4 @@
--- THE PRINTED LINES of document 01 that are to be proved, on the rules themselves. Assumes nothing.
+-- THE PRINTED LINES of document 01 that are to be proved, on the rules themselves, and a session that shows absent rounds. Assumes nothing.
 use Prim.Native.Nat.{ℕ}
 use mathlib.Core.Path.{_≡_, refl}
 use mathlib.Core.Bool.{true, false}
@@ -45,12 +45,16 @@ pub record Printed : Type 0 where
   -- 1 by 2, one defect: west and east tie, west (edge 0) is committed
   pub tie : decoded base (0x01 ∷ 0x02 ∷ 0x01 ∷ 0x00 ∷ 0x00 ∷ 0x00 ∷ 0x00 ∷ []) room
       ≡ gives (0x01 ∷ 0x02 ∷ 0x00 ∷ 0x00 ∷ 0x02 ∷ 0x00 ∷ 0x00 ∷ 0x01 ∷ 0x00 ∷ 0x00 ∷ 0x03 ∷ 0x01 ∷ 0x00 ∷ 0x00 ∷ 0x02 ∷ [])
+  -- Not printed there: 1 by 4, a defect at detector 2, five empty rounds. Nothing grows into the rounds before the first, or the third run would
+  -- make 4 steps
+  pub absent : decoded base (0x01 ∷ 0x04 ∷ 0x01 ∷ 0x02 ∷ 0x00 ∷ 0x00 ∷ 0x00 ∷ 0x00 ∷ 0x00 ∷ []) room
+      ≡ gives (0x01 ∷ 0x04 ∷ 0x00 ∷ 0x00 ∷ 0x02 ∷ 0x00 ∷ 0x00 ∷ 0x01 ∷ 0x00 ∷ 0x00 ∷ 0x03 ∷ 0x00 ∷ 0x00 ∷ 0x01 ∷ 0x00 ∷ 0x00 ∷ 0x01 ∷ 0x01 ∷ 0x03 ∷ 0x00 ∷ 0x02 ∷ [])
   -- the lines of shapes, numbers and refused headers
   pub streams : stream.Printed
 
 pub printed : Printed
 unfolding opened
-printed = record { first = refl; second = refl; tie = refl; streams = stream.printed }
+printed = record { first = refl; second = refl; tie = refl; absent = refl; streams = stream.printed }
 
 -- FIRST SESSION, third round by run: budget 4 answers rest 4, budget 3 spent 3, and one step more then reaches rest
 

@@ -6,12 +6,12 @@ use window::Node;
 use window::Stage;
 ghost use mathlib.Core.Path.{_≡_};
 ghost use mathlib.Core.Bool.{_&&_};
-ghost use Prim.Native.Nat.{_+_, _*_};
+ghost use Prim.Native.Nat.{_+_, _*_, _≤_};
 ghost use Rattle.shape.specs.Sizes.{sheetsOf, nodesIn};
 ghost use Rattle.steps.specs.Steps.{base};
 ghost use Rattle.walk.specs.Walk.{Stands};
 ghost use Rattle.window.specs.Window.{reach};
-ghost use Rattle.window.specs.Formed.{markFits, pointerFits, nodeFits, slotFits};
+ghost use Rattle.window.specs.Formed.{isFresh, markFits, pointerFits, nodeFits, slotFits};
 
 // Marks are numbers of nodes, reset only in stage merging.
 fn mark_fits(stage: Stage, marks: usize, mark: Mark) -> bool
@@ -30,35 +30,49 @@ pub fn numbers(shape: Shape) -> usize
     (shape.height as usize * (shape.distance as usize + 1)) * (shape::sheets(shape) + 1)
 }
 
-// Pointers go along edges, except that a bottom detector's may be D in stage to grow.
-fn pointer_fits(shape: Shape, stage: Stage, place: Place, g: usize, pointer: u8) -> bool
+// Pointers go along edges between so many sheets.
+fn pointer_fits(shape: Shape, sheets: usize, place: Place, g: usize, pointer: u8) -> bool
     requires { ⌜ Stands (shape .height) (shape .distance) place g ⌝ }
-    ensures { λ r. ⌜ r ≡ pointerFits base stage (shape .height) (shape .distance) (sheetsOf (shape .distance)) place pointer ⌝ }
+    requires { ⌜ sheets ≤ sheetsOf (shape .distance) + 1 ⌝ }
+    ensures { λ r. ⌜ r ≡ pointerFits base (shape .height) (shape .distance) sheets place pointer ⌝ }
 {
     if pointer == 0 {
         return true;
     }
-    let way = walk::reach(shape, pointer, place, g);
-    if way.there {
-        return true;
-    }
-    ((window::is_to_grow(stage) & (place.depth as usize + 1 == shape::sheets(shape)))
-        & !shape::is_boundary(shape, place.column))
-        & steps::falls(pointer)
+    let way = walk::reach(shape, sheets, pointer, place, g);
+    way.there
 }
 
+// A node in its fresh state, its own number given.
+fn is_fresh(own: u16, node: Node) -> bool
+    ensures { λ r. ⌜ r ≡ isFresh own node ⌝ }
+{
+    let mark = node.mark;
+    let Mark::Root(m) = mark else {
+        return false;
+    };
+    (((!node.active & !node.defect) & !node.unrooted) & (node.pointer == 0)) & (m == own)
+}
+
+// A node, where so many sheets are there and pointers may lead to so many; an absent one keeps its fresh state.
 pub fn node_fits(
     shape: Shape,
     stage: Stage,
     marks: usize,
+    there: usize,
+    led: usize,
     place: Place,
     g: usize,
     node: Node,
 ) -> bool
     requires { ⌜ Stands (shape .height) (shape .distance) place g ⌝ }
     requires { ⌜ marks ≡ nodesIn (shape .height) (shape .distance) (sheetsOf (shape .distance) + 1) ⌝ }
-    ensures { λ r. ⌜ r ≡ nodeFits base stage (shape .height) (shape .distance) (sheetsOf (shape .distance)) place node ⌝ }
+    requires { ⌜ led ≤ sheetsOf (shape .distance) + 1 ⌝ }
+    ensures { λ r. ⌜ r ≡ nodeFits base stage (shape .height) (shape .distance) there led place node ⌝ }
 {
+    if there <= place.depth as usize {
+        return is_fresh(walk::number(shape, place, g), node);
+    }
     let mark = node.mark;
     if !mark_fits(stage, marks, mark) {
         return false;
@@ -66,7 +80,7 @@ pub fn node_fits(
     if (node.pointer == 0) & !node.defect {
         return true;
     }
-    if !pointer_fits(shape, stage, place, g, node.pointer) {
+    if !pointer_fits(shape, led, place, g, node.pointer) {
         return false;
     }
     !(shape::is_boundary(shape, place.column) & node.defect)
@@ -75,6 +89,7 @@ pub fn node_fits(
 // Growth is at most 2, and nothing stands in a slot without an edge.
 fn slot_fits(
     shape: Shape,
+    sheets: usize,
     place: Place,
     g: usize,
     pointer: u8,
@@ -82,18 +97,20 @@ fn slot_fits(
     correction: bool,
 ) -> bool
     requires { ⌜ Stands (shape .height) (shape .distance) place g ⌝ }
-    ensures { λ r. ⌜ r ≡ slotFits (reach base (shape .height) (shape .distance) (sheetsOf (shape .distance)) pointer place .there) halves correction ⌝ }
+    requires { ⌜ sheets ≤ sheetsOf (shape .distance) + 1 ⌝ }
+    ensures { λ r. ⌜ r ≡ slotFits (reach base (shape .height) (shape .distance) sheets pointer place .there) halves correction ⌝ }
 {
     if (halves == 0) & !correction {
         return true;
     }
-    let way = walk::reach(shape, pointer, place, g);
+    let way = walk::reach(shape, sheets, pointer, place, g);
     (halves <= 2) & way.there
 }
 
 // The three slots of a node, E, S and U: their halves, and whether they flip. Most are empty: no step is taken for them.
 pub fn slots_fit(
     shape: Shape,
+    sheets: usize,
     place: Place,
     g: usize,
     e: u8,
@@ -104,11 +121,12 @@ pub fn slots_fit(
     fu: bool,
 ) -> bool
     requires { ⌜ Stands (shape .height) (shape .distance) place g ⌝ }
-    ensures { λ r. ⌜ r ≡ slotFits (reach base (shape .height) (shape .distance) (sheetsOf (shape .distance)) 3 place .there) e fe && slotFits (reach base (shape .height) (shape .distance) (sheetsOf (shape .distance)) 4 place .there) s fs && slotFits (reach base (shape .height) (shape .distance) (sheetsOf (shape .distance)) 6 place .there) u fu ⌝ }
+    requires { ⌜ sheets ≤ sheetsOf (shape .distance) + 1 ⌝ }
+    ensures { λ r. ⌜ r ≡ slotFits (reach base (shape .height) (shape .distance) sheets 3 place .there) e fe && slotFits (reach base (shape .height) (shape .distance) sheets 4 place .there) s fs && slotFits (reach base (shape .height) (shape .distance) sheets 6 place .there) u fu ⌝ }
 {
     if (((e == 0) & (s == 0)) & (u == 0)) & ((!fe & !fs) & !fu) {
         return true;
     }
-    (slot_fits(shape, place, g, 3, e, fe) & slot_fits(shape, place, g, 4, s, fs))
-        & slot_fits(shape, place, g, 6, u, fu)
+    (slot_fits(shape, sheets, place, g, 3, e, fe) & slot_fits(shape, sheets, place, g, 4, s, fs))
+        & slot_fits(shape, sheets, place, g, 6, u, fu)
 }

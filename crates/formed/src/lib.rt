@@ -16,6 +16,8 @@ fn used_fit(w: Window) -> bool
     let stage = w.stage;
     let n = shape::nodes(shape);
     let marks = fits::numbers(shape);
+    let there = window::present(shape, w.next);
+    let led = window::pointed(shape, stage, w.next);
     let mut place = Place {
         depth: 0,
         row: 0,
@@ -24,12 +26,13 @@ fn used_fit(w: Window) -> bool
     let mut g: usize = 0;
     while g < n {
         let node = w.nodes[g];
-        if !fits::node_fits(shape, stage, marks, place, g, node) {
+        if !fits::node_fits(shape, stage, marks, there, led, place, g, node) {
             return false;
         }
         let e = 3 * g;
         if !fits::slots_fit(
             shape,
+            there,
             place,
             g,
             w.growth[e],

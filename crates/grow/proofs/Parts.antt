@@ -1,5 +1,5 @@
 -- When a node is cut, and one turn of the loop. Assumes nothing.
-use Prim.Native.Nat.{ℕ, _+_, _-_, _*_, _<_}
+use Prim.Native.Nat.{ℕ, _+_, _*_, _<_}
 use native.Mathlib.Omega.{arith}
 use mathlib.Core.Path.{_≡_, sym, _∙_}
 use mathlib.Core.Bool.{Bool, true, false, _&&_}
@@ -13,7 +13,7 @@ use Rattle.steps.specs.Steps.{base, falls}
 use Rattle.shape.specs.declared.Place.{Place}
 use Rattle.window.specs.Lists.{over}
 use Rattle.window.specs.LawsLists.{over-three}
-use Rattle.window.specs.Window.{namer, size, at, place, reach}
+use Rattle.window.specs.Window.{namer, size, present, at, place, reach}
 use Rattle.window.specs.Grow.{gains, cut, grownSlot, grownNode, grown}
 use Rattle.window.specs.declared.Stage.the-variants.{Merging}
 use Rattle.window.specs.declared.Node.{Node}
@@ -40,13 +40,13 @@ module _ (w : Window) (g : ℕ) where
   unfolding grownNode
   node-by q x n e f z = z ∙ rw (e, f)
 
-  pub slot-by : (kind p e v : ℕ) (q : Place) (r : Way) (n m : Node) → kind < 3 → e ≡ 3 * g + kind → namer base kind ≡ p → q ≡ place w g
-      → r ≡ reach base (w .shape .height) (w .shape .distance) (sheetsOf (w .shape .distance)) p q → n ≡ at w g → m ≡ at w (r .node)
+  pub slot-by : (kind p e v k : ℕ) (q : Place) (r : Way) (n m : Node) → kind < 3 → e ≡ 3 * g + kind → namer base kind ≡ p → k ≡ present w → q ≡ place w g
+      → r ≡ reach base (w .shape .height) (w .shape .distance) k p q → n ≡ at w g → m ≡ at w (r .node)
       → v ≡ gains r (getD (w .growth) e 0) n m → v ≡ grownSlot base w e
   unfolding grownSlot base
-  slot-by kind p e v q r n m l y z x f a b t =
+  slot-by kind p e v k q r n m l y z o x f a b t =
       let i = slot-at g kind e y l in
-      t ∙ rw (i .0, i .1, z, b, a, f, x)
+      t ∙ rw (i .0, i .1, z, b, a, f, o, x)
 
 -- its three slots
 pub three : (w : Window) (g : ℕ) (now : List ℕ) (a b c : ℕ) → 3 * g + 2 < length (w .growth) → now ≡ over (3 * g) (grownSlot base w) (w .growth)

@@ -15,13 +15,15 @@ use Rattle.shape.specs.Choice.{if-false, order, tell}
 use Rattle.shape.specs.Sizes.{sheetsOf, boundary}
 use Rattle.shape.specs.Ranges.{halves}
 use Rattle.steps.specs.Steps.{base, falls}
+use Rattle.steps.specs.Proper.{falls-down}
 use Rattle.shape.specs.declared.Place.{Place}
 use Rattle.walk.specs.Walk.{Stands}
-use Rattle.walk.specs.LawsWalk.{way-low, falls-down, named-east, named-south, named-up}
-use Rattle.walk.specs.Ways.{east-none, east-way, south-none, south-way, up-none, up-way}
+use Rattle.walk.specs.LawsWalk.{way-low, named-east, named-south, named-up}
+use Rattle.walk.specs.Ways.{absent-none, east-none, east-way, south-none, south-way, up-none, up-way}
 use Rattle.window.specs.Lists.{byPlace, over}
 use Rattle.window.specs.LawsLists.{and-no, by-snoc}
-use Rattle.window.specs.Window.{nowhere, namer, at, bottom, place, reach}
+use Rattle.window.specs.LawsPresent.{supplied-le}
+use Rattle.window.specs.Window.{nowhere, namer, present, at, bottom, place, reach}
 use Rattle.window.specs.Grow.{gains, grownSlot, grownNode}
 use Rattle.window.specs.declared.Node.{Node}
 use Rattle.window.specs.declared.Way.{Way}
@@ -52,57 +54,61 @@ still r old here other l a b = ⊎-elim (λ t. let o = b t in rw (t, a, o) (omeg
 no-way : (r : Way) → nowhere ≡ r → r .there ≡ true → ⊥
 no-way r e t = let f : false ≡ r .there = ap (λ (x : Way). x .there) e in let z : _≡_ {A = ℕ} 0 1 = cc in omega arith
 
--- where the ways lead
-module _ (h d : ℕ) (q : Place) (g : ℕ) (s : Stands h d q g) where
+-- where the ways lead, k sheets being there
+module _ (h d k : ℕ) (q : Place) (g : ℕ) (s : Stands h d q g) where
   abbrev way : ℕ → Way
-  way p = reach base h d (sheetsOf d) p q
+  way p = reach base h d k p q
+
+  -- a way that is there leaves a place that is there
+  from : (p : ℕ) → way p .there ≡ true → q .depth < k
+  from p t = ⊎-elim (λ l. l) (λ l. absurd (no-way (way p) (absent-none base h d k p q l) t)) (order (q .depth) k)
 
   leads-east : way 3 .there ≡ true → way 3 .node ≡ g + 1
   leads-east t = ⊎-elim
-      (λ l. sym (ap (λ (r : Way). r .node) (east-way h d q g s l)))
-      (λ l. absurd (no-way (way 3) (east-none h d q g s (omega (arith, s .inside .column))) t))
+      (λ l. sym (ap (λ (r : Way). r .node) (east-way h d q g s l k (from 3 t))))
+      (λ l. absurd (no-way (way 3) (east-none h d q g s k (omega (arith, s .inside .column))) t))
       (order (q .column) d)
 
   leads-south : way 4 .there ≡ true → way 4 .node ≡ g + (d + 1)
   leads-south t = ⊎-elim
-      (λ l. sym (ap (λ (r : Way). r .node) (south-way h d q g s l)))
-      (λ l. absurd (no-way (way 4) (south-none h d q g s l) t))
+      (λ l. sym (ap (λ (r : Way). r .node) (south-way h d q g s l k (from 4 t))))
+      (λ l. absurd (no-way (way 4) (south-none h d q g s k l) t))
       (tell (not (boundary d (q .column)) && ltb (q .row + 1) h))
 
   leads-up : way 6 .there ≡ true → way 6 .node ≡ g - h * (d + 1)
   leads-up t = ⊎-elim
-      (λ l. sym (ap (λ (r : Way). r .node) (up-way h d q g s l)))
-      (λ l. absurd (no-way (way 6) (up-none h d q g s l) t))
+      (λ l. sym (ap (λ (r : Way). r .node) (up-way h d q g s l k (from 6 t))))
+      (λ l. absurd (no-way (way 6) (up-none h d q g s k l) t))
       (tell (not (boundary d (q .column)) && ltb 0 (q .depth)))
 
 module _ (w : Window) (q : Place) (g : ℕ) (s : Stands (w .shape .height) (w .shape .distance) q g) (e : q ≡ place w g) (mine : at w g .active ≡ false) where
   abbrev by : ℕ → Way
-  by p = way (w .shape .height) (w .shape .distance) q g s p
+  by p = way (w .shape .height) (w .shape .distance) (present w) q g s p
 
   other : (p i k : ℕ) → (k < 3600 → i ≡ k) → (by p .there ≡ true → by p .node ≡ k) → at w i .active ≡ false → by p .there ≡ true → at w (by p .node) .active ≡ false
   other p i k f m a t =
       let n = m t in
-      let b : k < 3600 = omega (arith, way-low (w .shape .height) (w .shape .distance) p q (s .ranged) .0) in
+      let b : k < 3600 = omega (arith, way-low (w .shape .height) (w .shape .distance) (present w) p q (s .ranged) (supplied-le (w .shape .distance) (w .next) (sheetsOf (w .shape .distance))) .0) in
       subst (λ (x : ℕ). at w x .active ≡ false) (f b ∙ sym n) a
 
   -- the slot of a kind, over the way p to k, which is read at i
   slot-still : (kind p i k : ℕ) → kind < 3 → namer base kind ≡ p → (k < 3600 → i ≡ k) → (by p .there ≡ true → by p .node ≡ k)
       → at w i .active ≡ false → getD (w .growth) (3 * g + kind) 0 ≤ 2 → getD (w .growth) (3 * g + kind) 0 ≡ grownSlot base w (3 * g + kind)
   slot-still kind p i k l z f m a u =
-      slot-by w g kind p (3 * g + kind) (getD (w .growth) (3 * g + kind) 0) q (by p) (at w g) (at w (by p .node)) l refl z e refl refl refl
+      slot-by w g kind p (3 * g + kind) (getD (w .growth) (3 * g + kind) 0) (present w) q (by p) (at w g) (at w (by p .node)) l refl z refl e refl refl refl
       (still (by p) (getD (w .growth) (3 * g + kind) 0) (at w g) (at w (by p .node)) u mine (other p i k f m a))
 
   -- by the test that the code makes, reading at i, j and k
   module _ (i j k : ℕ) (i-is : g + 1 < 3600 → i ≡ g + 1) (j-is : g + (w .shape .distance + 1) < 3600 → j ≡ g + (w .shape .distance + 1)) (k-is : k ≡ g - w .shape .height * (w .shape .distance + 1))
       (right : at w i .active ≡ false) (front : at w j .active ≡ false) (above : at w k .active ≡ false) where
     pub east-still : getD (w .growth) (3 * g) 0 ≤ 2 → getD (w .growth) (3 * g) 0 ≡ grownSlot base w (3 * g)
-    east-still u = rw add-zero at (slot-still 0 3 i (g + 1) (omega arith) named-east i-is (leads-east (w .shape .height) (w .shape .distance) q g s) right (rw add-zero u))
+    east-still u = rw add-zero at (slot-still 0 3 i (g + 1) (omega arith) named-east i-is (leads-east (w .shape .height) (w .shape .distance) (present w) q g s) right (rw add-zero u))
 
     pub south-still : getD (w .growth) (3 * g + 1) 0 ≤ 2 → getD (w .growth) (3 * g + 1) 0 ≡ grownSlot base w (3 * g + 1)
-    south-still = slot-still 1 4 j (g + (w .shape .distance + 1)) (omega arith) named-south j-is (leads-south (w .shape .height) (w .shape .distance) q g s) front
+    south-still = slot-still 1 4 j (g + (w .shape .distance + 1)) (omega arith) named-south j-is (leads-south (w .shape .height) (w .shape .distance) (present w) q g s) front
 
     pub up-still : getD (w .growth) (3 * g + 2) 0 ≤ 2 → getD (w .growth) (3 * g + 2) 0 ≡ grownSlot base w (3 * g + 2)
-    up-still = slot-still 2 6 k (g - w .shape .height * (w .shape .distance + 1)) (omega arith) named-up (λ l. k-is) (leads-up (w .shape .height) (w .shape .distance) q g s) above
+    up-still = slot-still 2 6 k (g - w .shape .height * (w .shape .distance + 1)) (omega arith) named-up (λ l. k-is) (leads-up (w .shape .height) (w .shape .distance) (present w) q g s) above
 
 uncut : (w : Window) (g : ℕ) → eqb (at w g .pointer) 5 ≡ false → at w g ≡ grownNode base w g
 unfolding grownNode

@@ -56,6 +56,7 @@ pub fn grow(w: Window) -> Window
 {
     let shape = w.shape;
     let n = shape::nodes(shape);
+    let there = window::present(shape, w.next);
     let row = shape.distance as usize + 1;
     let sheet = shape.height as usize * row;
     let nodes = w.nodes;
@@ -96,9 +97,9 @@ pub fn grow(w: Window) -> Window
             continue;
         }
         v.nodes[g] = cut_down(shape, place, node);
-        let east = walk::reach(shape, 3, place, g);
-        let south = walk::reach(shape, 4, place, g);
-        let up = walk::reach(shape, 6, place, g);
+        let east = walk::reach(shape, there, 3, place, g);
+        let south = walk::reach(shape, there, 4, place, g);
+        let up = walk::reach(shape, there, 6, place, g);
         let a = east.node;
         let b = south.node;
         let c = up.node;

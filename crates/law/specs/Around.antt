@@ -16,7 +16,7 @@ use Rattle.layers.specs.LawsEdge.{nodeOf}
 use Rattle.steps.specs.LawsStep.{across-back, joins-back, slots-apart, namer as namedBy}
 use Rattle.layers.specs.declared.Edge.{Edge}
 use Rattle.shape.specs.declared.Place.{Place}
-use Rattle.window.specs.Window.{namer, reach}
+use Rattle.window.specs.Window.{namer, present, reach}
 use Rattle.window.specs.Round.{edgeSlot}
 use Rattle.closure.specs.Lists.{either, other}
 use Rattle.closure.specs.Suited.{Suited}
@@ -38,8 +38,9 @@ module _ (T : Table) (S : Suited T) (L : Layered T) (p : Played) (r : Ranged (he
   abbrev d : ℕ
   d = distance p
 
-  abbrev s : ℕ
-  s = sheets p
+  -- the sheets that are there
+  abbrev there : ℕ
+  there = present (p .window)
 
   abbrev q : Place
   q = placeNow p a
@@ -52,20 +53,20 @@ module _ (T : Table) (S : Suited T) (L : Layered T) (p : Played) (r : Ranged (he
   edgeAt v = numberHere T h d q v
 
   abbrev thereAt : ℕ → Bool
-  thereAt v = reach T h d s v q .there
+  thereAt v = reach T h d there v q .there
 
   module _ (v : ℕ) (t : thereAt v ≡ true) where
     abbrev m : Place
     m = namedBy T v q
 
-    j : Joins h d s (step T v) q
-    j = edge T h d s v q t
+    j : Joins h d there (step T v) q
+    j = edge T h d there v q t
 
     back : Opposed T v
-    back = opposed T S h d s q v j
+    back = opposed T S h d there q v j
 
-    named : Joins h d s (step T (namer T (step T v .kind))) m
-    named = named-joins T S h d s q v j
+    named : Joins h d there (step T (namer T (step T v .kind))) m
+    named = named-joins T S h d there q v j
 
     depth-back : last p - layerAt v ≡ m .depth
     depth-back = let x = named .from .depth in omega arith
@@ -83,10 +84,10 @@ module _ (T : Table) (S : Suited T) (L : Layered T) (p : Played) (r : Ranged (he
     far-here o =
         let x : m ≡ across (step T v) q = if-false (step T v .own) q (across (step T v) q) o in
         let y : namer T (step T v .kind) ≡ step T v .back = namer-back T S v (points T v (j .moves)) o in
-        let l : s ≤ last p + 1 = omega arith in
+        let l : there ≤ last p + 1 = omega arith in
         let z : farEnd T (layerAt v) (edgeHere T q v) ≡ a
         = ap₂ (λ (b : ℕ) (c : Place). farBy (step T b) (last p - c .depth) c) y x
-        ∙ far-back h d s (last p) (step T v) (step T (step T v .back)) (back .reversed) q j l
+        ∙ far-back h d there (last p) (step T v) (step T (step T v .back)) (back .reversed) q j l
         ∙ spot-back in
         subst (λ (b : Spot). same b a ≡ true) (sym z) (same-self a)
 
@@ -98,23 +99,23 @@ module _ (T : Table) (S : Suited T) (L : Layered T) (p : Played) (r : Ranged (he
         let n : layerAt v ≤ last p = omega arith in
         let x = depth-back in
         let y = named .from .depth in
-        let l : last p - layerAt v < s = omega arith in
-        subst (λ (e : Edge). (inWindow p (layerAt v) && reach T h d s (namer T (e .kind)) (placeNow p (nearEnd (layerAt v) e)) .there && ends T (layerAt v) e a) ≡ true)
-        (sym (number-is T S h d s q v j L))
+        let l : last p - layerAt v < sheets p = omega arith in
+        subst (λ (e : Edge). (inWindow p (layerAt v) && reach T h d there (namer T (e .kind)) (placeNow p (nearEnd (layerAt v) e)) .there && ends T (layerAt v) e a) ≡ true)
+        (sym (number-is T S h d there q v j L))
         (both _ _
         (both _ _ (in-window p (layerAt v) n l)
-        (subst (λ (k : ℕ). reach T h d s (namer T (step T v .kind)) (record { depth = k; row = m .row; column = m .column }) .there ≡ true) (sym depth-back) (edge-there T h d s (namer T (step T v .kind)) m named)))
+        (subst (λ (k : ℕ). reach T h d there (namer T (step T v .kind)) (record { depth = k; row = m .row; column = m .column }) .there ≡ true) (sym depth-back) (edge-there T h d there (namer T (step T v .kind)) m named)))
         ends-here)
 
     slot-here : slotOf T p (layerAt v) (edgeAt v) ≡ slot T h d v q
-    slot-here = ap₂ (λ (k : ℕ) (e : Edge). edgeSlot T h d k e) depth-back (number-is T S h d s q v j L) ∙ sym (slot-is T h d q v)
+    slot-here = ap₂ (λ (k : ℕ) (e : Edge). edgeSlot T h d k e) depth-back (number-is T S h d there q v j L) ∙ sym (slot-is T h d q v)
 
   -- two directions lead to two edges
   directions-apart : (v v' : ℕ) → thereAt v ≡ true → thereAt v' ≡ true → layerAt v ≡ layerAt v' → edgeAt v ≡ edgeAt v' → v ≡ v'
   directions-apart v v' t t' x y =
-      slots-apart T (S .proper) h d s v v' q (across (step T v) q) (across (step T v') q)
-      (edge-near T h d s v q (j v t))
-      (edge-near T h d s v' q (j v' t'))
+      slots-apart T (S .proper) h d there v v' q (across (step T v) q) (across (step T v') q)
+      (edge-near T h d there v q (j v t))
+      (edge-near T h d there v' q (j v' t'))
       (sym (slot-here v t) ∙ ap₂ (λ (n i : ℕ). slotOf T p n i) x y ∙ slot-here v' t')
 
   abbrev LedTo : ℕ → ℕ → Type 0
@@ -128,7 +129,7 @@ module _ (T : Table) (S : Suited T) (L : Layered T) (p : Played) (r : Ranged (he
     abbrev end : Place
     end = nodeOf (last p - n) e
 
-    led : (v : ℕ) → Joins h d s (step T v) q → namedBy T v q ≡ end → step T v .kind ≡ e .kind → LedTo n i
+    led : (v : ℕ) → Joins h d there (step T v) q → namedBy T v q ≡ end → step T v .kind ≡ e .kind → LedTo n i
     led v J x y =
         let w = points T v (J .moves) in
         let lo = w .0 in
@@ -139,7 +140,7 @@ module _ (T : Table) (S : Suited T) (L : Layered T) (p : Played) (r : Ranged (he
         record {
           direction = v - 1;
           below = omega arith;
-          there = ap thereAt z ∙ edge-there T h d s v q J;
+          there = ap thereAt z ∙ edge-there T h d there v q J;
           layer-is = ap layerAt z ∙ ap (λ (c : Place). last p - c .depth) x ∙ k;
           edge-is = ap edgeAt z ∙ ap (edgeNumber h d) g ∙ L .numbered h d i r l;
         }
@@ -150,12 +151,12 @@ module _ (T : Table) (S : Suited T) (L : Layered T) (p : Played) (r : Ranged (he
     names : Names T (e .kind) v
     names = namer-names T S (e .kind) (L .kind h d i r l)
 
-    near-led : Joins h d s (step T v) end → nearEnd n e ≡ a → LedTo n i
+    near-led : Joins h d there (step T v) end → nearEnd n e ≡ a → LedTo n i
     near-led J c =
         let x : end ≡ q = ap (placeNow p) c in
-        led v (subst (λ (c : Place). Joins h d s (step T v) c) x J) (if-true (step T v .own) q (across (step T v) q) (names .own) ∙ sym x) (names .same)
+        led v (subst (λ (c : Place). Joins h d there (step T v) c) x J) (if-true (step T v .own) q (across (step T v) q) (names .own) ∙ sym x) (names .same)
 
-    far-led : Joins h d s (step T v) end → farEnd T n e ≡ a → LedTo n i
+    far-led : Joins h d there (step T v) end → farEnd T n e ≡ a → LedTo n i
     unfolding across
     far-led J c =
         let O = way-opposed T S L h d i r l in
@@ -166,16 +167,16 @@ module _ (T : Table) (S : Suited T) (L : Layered T) (p : Played) (r : Ranged (he
         = ap {B = Place} (λ (k : ℕ). record { depth = k; row = goes (step T v .row) (e .row); column = goes (step T v .column) (e .column) }) (sym x) ∙ ap (placeNow p) c in
         let o : step T (step T v .back) .own ≡ false = O .reversed .own ∙ ap not (names .own) in
         led (step T v .back)
-        (subst (λ (c : Place). Joins h d s (step T (step T v .back)) c) y (joins-back h d s (step T v) (step T (step T v .back)) (O .reversed) end J))
+        (subst (λ (c : Place). Joins h d there (step T (step T v .back)) c) y (joins-back h d there (step T v) (step T (step T v .back)) (O .reversed) end J))
         (if-false (step T (step T v .back) .own) q (across (step T (step T v .back)) q) o
         ∙ ap (λ (c : Place). across (step T (step T v .back)) c) (sym y)
-        ∙ across-back h d s (step T v) (step T (step T v .back)) (O .reversed) end J)
+        ∙ across-back h d there (step T v) (step T (step T v .back)) (O .reversed) end J)
         (O .reversed .kind ∙ names .same)
 
     covered : (edged T p n i && ends T n e a) ≡ true → LedTo n i
     covered t =
         let x = halves (edged T p n i) (ends T n e a) t in
-        let J = edge T h d s v end (halves (inWindow p n) _ (x .0) .1) in
+        let J = edge T h d there v end (halves (inWindow p n) _ (x .0) .1) in
         ⊎-elim (near-led J) (far-led J) (ends-at T n e a (x .1))
 
   abbrev E : ℕ
@@ -185,7 +186,7 @@ module _ (T : Table) (S : Suited T) (L : Layered T) (p : Played) (r : Ranged (he
   matches =
       record {
         layer-lt = λ x k t. omega arith;
-        edge-lt = λ x k t. number-below T S h d s q (x + 1) (j (x + 1) t) L;
+        edge-lt = λ x k t. number-below T S h d there q (x + 1) (j (x + 1) t) L;
         holds = λ x k t. edged-here (x + 1) t;
         apart = λ x x' k k' t t' f g. let z = directions-apart (x + 1) (x' + 1) t t' f g in omega arith;
         covers = λ n i b l t. covered n i b l t;

@@ -15,7 +15,7 @@ use Rattle.steps.specs.Steps.{Table, step}
 use Rattle.window.specs.Lists.{byPlace, any, xor}
 use Rattle.window.specs.LawsLists.{getD-by, and-no}
 use Rattle.window.specs.Window.{isRest, size, at, detector, to}
-use Rattle.window.specs.Merging.{hot, pushes, nothing, syncedActive, sends, arrivals, syncedDefect, floods, stepped, seen, stepAt, merged}
+use Rattle.window.specs.Merging.{hot, nothing, syncedActive, sends, arrivals, syncedDefect, floods, stepped, seen, stepAt, merged}
 use Rattle.window.specs.declared.Stage.the-variants.{Rest, Merging}
 use Rattle.window.specs.declared.Mark.the-variants.{Root}
 use Rattle.window.specs.declared.Seen.{Seen}

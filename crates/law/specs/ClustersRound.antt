@@ -2,36 +2,39 @@
 use Prim.Native.Nat.{ℕ, _+_, _-_, _<_}
 use native.Mathlib.Omega.{arith}
 use mathlib.Core.Path.{_≡_, refl, sym, _∙_, ap, subst}
-use mathlib.Core.Bool.{true, false}
+use mathlib.Core.Bool.{true, false, _&&_}
 use mathlib.Core.List.{List}
 use mathlib.Core.Logic.{⊎-elim}
 use borrow.Author.Tests.{eqb-true, eq-eqb}
+use lib.Dec.{eqb}
 use lib.ListN.{getD}
-use Rattle.refusal.specs.Laws.{undone}
 use Rattle.shape.specs.Choice.{tell, order}
 use Rattle.steps.specs.Joins.{Joins}
 use Rattle.shape.specs.Nodes.{numberOf}
-use Rattle.shape.specs.Ranges.{Ranged, nodes-of, halves, both}
+use Rattle.shape.specs.Ranges.{Ranged, halves, both}
 use Rattle.shape.specs.Sizes.{sheetsOf}
-use Rattle.steps.specs.Steps.{Table, step, across}
+use Rattle.steps.specs.Steps.{Table, step, across, falls}
+use Rattle.shape.specs.declared.Place.{Place}
 use Rattle.window.specs.Round.{loweredNumber, lowered, sunk, topNode, rounded}
-use Rattle.window.specs.Window.{reach, size, sheet, at, place, to}
+use Rattle.window.specs.Window.{reach, size, sheet, supplied, present, at, place, bottom, to}
 use Rattle.window.specs.declared.Mark.{Mark}
-use Rattle.window.specs.declared.Stage.the-variants.{ToGrow}
 use Rattle.window.specs.declared.Window.{Window}
 use Rattle.closure.specs.Suited.{Suited}
-use Rattle.closure.specs.Edges.{edge, edge-there, edge-to, edge-slot, edge-node}
-use Rattle.closure.specs.Facts.{Pointing, along, centre as at-centre, out as leaves, facts, inside-at}
+use Rattle.closure.specs.Edges.{edge, edge-there, edge-to, edge-slot}
+use Rattle.closure.specs.Facts.{Facts, facts, inside-at, index-within, present-within}
 use Rattle.closure.specs.After.{orphan, top-at, sunk-at}
-use Rattle.closure.specs.Lower.{lower, index-lower, above-lt, above-place, above-depth, pointing-lower}
+use Rattle.closure.specs.Lower.{lower, index-lower, above-lt, above-place, above-depth, joins-lower, joins-present}
+use Rattle.closure.specs.LowerNumbers.{number-lowered, number-order}
 use Rattle.closure.specs.Closure.{Kept}
 use Rattle.law.specs.Nodes.{unrooteds, pointers, marks}
-use Rattle.law.specs.LowerNumbers.{number-lowered, number-order}
 use Rattle.law.specs.LowerSlots.{across-lower, slot-falls}
 use Rattle.law.specs.Graph.{graph, view, Chain, here as arrived, via as over, same, Home, Calm}
 use Rattle.law.specs.Fallen.{Ends, centre, out, via, Sunk, Fallen}
 
-module _ (T : Table) (S : Suited T) (w : Window) (defects : List ℕ) (r : Ranged (w .shape .height) (w .shape .distance)) (calm : Calm (graph T w) (view w)) where
+module _ (T : Table) (S : Suited T) (w : Window) (defects : List ℕ) (f : Facts T w) (calm : Calm (graph T w) (view w)) where
+  abbrev r : Ranged (w .shape .height) (w .shape .distance)
+  r = f .ranged
+
   abbrev h : ℕ
   h = w .shape .height
 
@@ -40,6 +43,10 @@ module _ (T : Table) (S : Suited T) (w : Window) (defects : List ℕ) (r : Range
 
   abbrev w' : Window
   w' = rounded T w defects
+
+  -- the sheets that are there after it
+  abbrev there' : ℕ
+  there' = supplied d (w .next + 1) (sheetsOf d)
 
   top-sunk : (v : ℕ) → v < size w → v < sheet w → Sunk T w' v
   unfolding rounded topNode
@@ -82,46 +89,45 @@ module _ (T : Table) (S : Suited T) (w : Window) (defects : List ℕ) (r : Range
       opens : graph T w .opn a p ≡ true
       opens = home .opn n
 
-      joins : Joins h d (sheetsOf d) (step T p) (place w a)
-      joins = edge T h d (sheetsOf d) p (place w a) (halves (to w T p a .there) _ opens .0)
+      joins : Joins h d (present w) (step T p) (place w a)
+      joins = edge T h d (present w) p (place w a) (halves (to w T p a .there) _ opens .0)
 
       abbrev next : ℕ
       next = graph T w .nb a p
 
       -- and does so still, if it does not lead out
       module _ (o : orphan T w' (a + sheet w) ≡ false) where
-        joins-still : Joins h d (sheetsOf d) (step T p) (lower (place w a))
+        joins-still : Joins h d there' (step T p) (lower (place w a))
         unfolding rounded
-        joins-still = go (pointing-lower T (S .proper) h d (place w a) (above-depth w r a (a + sheet w) refl l) p joins)
-          where
-            go : Pointing T ToGrow h d (lower (place w a)) p → Joins h d (sheetsOf d) (step T p) (lower (place w a))
-            go (at-centre e) = absurd (n e)
-            go (along j) = j
-            go (leaves x y u f) = absurd (undone (sym (both _ _ (eq-eqb (place w (a + sheet w) .depth + 1) (sheetsOf d) (rw moves y)) (rw still f)) ∙ o))
+        joins-still =
+            let u = f .next in
+            let l' = above-depth w r a (a + sheet w) refl l in
+            joins-present T (S .proper) h d (w .next + 1) (present w + 1) (lower (place w a)) p (joins-lower h d (present w) (place w a) (step T p) joins) (omega arith) l'
+            (subst (λ (q : Place). (eqb (q .depth + 1) (sheetsOf d) && falls T p) ≡ false) moves (ap (λ (n : ℕ). bottom w (a + sheet w) && falls T n) (sym still) ∙ o))
 
         next-sinks : graph T w' .nb (a + sheet w) p ≡ next + sheet w
         unfolding rounded
         next-sinks =
-            rw (moves, edge-to T h d (sheetsOf d) p (lower (place w a)) joins-still, edge-to T h d (sheetsOf d) p (place w a) joins, across-lower (step T p) (place w a) (joins .sheet))
+            rw (moves, edge-to T h d there' p (lower (place w a)) joins-still, edge-to T h d (present w) p (place w a) joins, across-lower (step T p) (place w a) (joins .sheet))
             (index-lower h d (across (step T p) (place w a)))
 
         next-lt : next + sheet w < size w
         unfolding rounded
         next-lt =
-            rw (← next-sinks, nodes-of h d r, moves)
-            (edge-node T h d (sheetsOf d) p (lower (place w a)) joins-still)
+            rw (← next-sinks, moves, edge-to T h d there' p (lower (place w a)) joins-still)
+            (index-within h d r _ (present-within h d (w .next + 1) _ (joins-still .to)))
 
-        growth-sinks : getD (w' .growth) (reach T h d (sheetsOf d) p (lower (place w a)) .slot) 0 ≡ getD (w .growth) (to w T p a .slot) 0
+        growth-sinks : getD (w' .growth) (reach T h d there' p (lower (place w a)) .slot) 0 ≡ getD (w .growth) (to w T p a .slot) 0
         unfolding rounded
         growth-sinks =
-            rw (edge-slot T h d (sheetsOf d) p (lower (place w a)) joins-still, edge-slot T h d (sheetsOf d) p (place w a) joins)
-            (slot-falls T w r {A = ℕ} 0 (w .growth) S p (place w a) joins joins-still)
+            rw (edge-slot T h d there' p (lower (place w a)) joins-still, edge-slot T h d (present w) p (place w a) joins)
+            (slot-falls T w r {A = ℕ} 0 (w .growth) S p (place w a) (present w) (w .next + 1) joins joins-still)
 
         opens-still : graph T w' .opn (a + sheet w) p ≡ true
         unfolding rounded
         opens-still =
             rw moves
-            (both _ _ (edge-there T h d (sheetsOf d) p (lower (place w a)) joins-still)
+            (both _ _ (edge-there T h d there' p (lower (place w a)) joins-still)
             (eq-eqb _ 2 (growth-sinks ∙ eqb-true _ 2 (halves (to w T p a .there) _ opens .1))))
 
         mark-across : at w' (next + sheet w) .mark ≡ at w' (a + sheet w) .mark
@@ -161,4 +167,4 @@ module _ (T : Table) (S : Suited T) (w : Window) (defects : List ℕ) (r : Range
       (order v (sheet w))
 
 pub round-fallen : (T : Table) → Suited T → (w : Window) (defects : List ℕ) → Kept T w → Calm (graph T w) (view w) → Fallen T (rounded T w defects)
-round-fallen T S w defects k calm = fallen T S w defects (facts T w (k .formed) .ranged) calm
+round-fallen T S w defects k calm = fallen T S w defects (facts T w (k .formed)) calm

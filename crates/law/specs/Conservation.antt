@@ -3,7 +3,7 @@ use Rattle.steps.specs.Steps.{Table}
 use Rattle.window.specs.Measured.{measuring}
 use Rattle.closure.specs.Suited.{Suited}
 use Rattle.closure.specs.Facts.{facts}
-use Rattle.law.specs.Law.{Conserved}
+use Rattle.law.specs.Everywhere.{Conserved}
 use Rattle.law.specs.Rules.{Invariant}
 use Rattle.law.specs.ConservedGrow.{conserved-grow}
 use Rattle.law.specs.Layered.{Layered}
@@ -14,7 +14,7 @@ pub conserved : (T : Table) → Suited T → Layered T → Invariant T (Conserve
 unfolding measuring
 conserved T S L =
     record {
-      round = λ p defects k st bits c. conserved-round T S L p defects (facts T (p .window) (k .formed) .ranged) bits c;
+      round = λ p defects k st bits c. conserved-round T S L p defects (facts T (p .window) (k .formed)) bits c;
       replace = λ p bytes c a i. c a (record { arrived = i .arrived; row = i .row; west = i .west; east = i .east });
       grow = λ p k st c. conserved-grow T p c;
       merging = λ p k st c. conserved-merging T S L p (facts T (p .window) (k .formed)) st c;

@@ -12,7 +12,8 @@ use Rattle.window.specs.Lists.{bit, xor}
 use Rattle.window.specs.LawsLists.{and-not}
 use Rattle.window.specs.Window.{reach, namer, present, at}
 use Rattle.window.specs.Round.{edgeSlot}
-use Rattle.law.specs.Law.{Played, Receipt, Spot, Detector, nearEnd, ends, sum, height, distance, sheets, last, entry, inWindow, placeNow, received, committed, standing, escaped, pending, ending, Conserved}
+use Rattle.law.specs.Law.{Played, Receipt, Spot, nearEnd, ends, sum, height, distance, sheets, last, entry, inWindow, placeNow, committed, standing, escaped, pending, ending}
+use Rattle.law.specs.Everywhere.{Detector, received, Conserved}
 use Rattle.law.specs.Bits.{xor-none, none-xor, xor-laws, xor-and, bit-add, bit-mod}
 use Rattle.law.specs.Sums.{parity, parity-xor, parity-same, parity-none, sum-parity}
 use Rattle.law.specs.Spots.{in-window, not-in-window}

@@ -16,7 +16,8 @@ use Rattle.window.specs.LawsLists.{and-no, and-not}
 use Rattle.window.specs.Fresh.{freshWindow}
 use Rattle.window.specs.LawsLists.{getD-same}
 use Rattle.closure.specs.After.{fresh-at}
-use Rattle.law.specs.Law.{Played, Spot, Detector, start, height, distance, sheets, last, inWindow, placeNow, standing, Conserved}
+use Rattle.law.specs.Law.{Played, Spot, start, sheets, last, inWindow, placeNow, standing}
+use Rattle.law.specs.Everywhere.{Detector, Conserved}
 use Rattle.law.specs.Nodes.{defects}
 use Rattle.law.specs.Spots.{spot-lt}
 use Rattle.law.specs.Conserved.{ended-none, edged, slotOf, corrected, defective, conserved-by}

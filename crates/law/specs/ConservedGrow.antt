@@ -11,7 +11,8 @@ use Rattle.window.specs.LawsLists.{over-later}
 use Rattle.window.specs.Window.{size, at, beyond}
 use Rattle.window.specs.Grow.{grownNode, grown}
 use Rattle.closure.specs.After.{orphan, cut-at, uncut-at}
-use Rattle.law.specs.Law.{Played, height, distance, inWindow, placeNow, escaped, Conserved}
+use Rattle.law.specs.Law.{Played, height, distance, inWindow, placeNow, escaped}
+use Rattle.law.specs.Everywhere.{Conserved}
 use Rattle.law.specs.Rules.{withWindow}
 use Rattle.law.specs.Nodes.{defects}
 use Rattle.law.specs.Conserved.{ended, corrected, charged, conserved-by}

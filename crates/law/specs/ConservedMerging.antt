@@ -16,12 +16,13 @@ use Rattle.layers.specs.Layer.{edgeOf}
 use Rattle.shape.specs.declared.Place.{Place}
 use Rattle.window.specs.Lists.{bit, xor}
 use Rattle.window.specs.LawsLists.{and-no, and-not}
-use Rattle.window.specs.Window.{isMerging, reach, at, place}
+use Rattle.window.specs.Window.{isMerging, reach, present, at, place}
 use Rattle.window.specs.Merging.{merged}
 use Rattle.window.specs.declared.Window.{Window}
 use Rattle.closure.specs.Suited.{Suited}
 use Rattle.closure.specs.Facts.{Facts}
-use Rattle.law.specs.Law.{Played, Spot, Detector, ends, height, distance, sheets, last, inWindow, placeNow, committed, standing, escaped, pending, Conserved}
+use Rattle.law.specs.Law.{Played, Spot, ends, height, distance, sheets, last, inWindow, placeNow, committed, standing, escaped, pending}
+use Rattle.law.specs.Everywhere.{Detector, Conserved}
 use Rattle.law.specs.Rules.{withWindow}
 use Rattle.law.specs.Bits.{refuted, xor-laws}
 use Rattle.law.specs.Sums.{parity}
@@ -63,7 +64,7 @@ module _ (T : Table) (S : Suited T) (L : Layered T) (p : Played) (f : Facts T (p
     det = ap (λ (q : Place). boundary d (q .column)) at-g ∙ not-end d (a .column) (i .west) (i .east)
 
     abbrev sumAt : List Bool → Place → Bool
-    sumAt correction q = parity (length (T .steps)) (λ x. reach T h d s (x + 1) q .there && getD correction (slot T h d (x + 1) q) false)
+    sumAt correction q = parity (length (T .steps)) (λ x. reach T h d (present w) (x + 1) q .there && getD correction (slot T h d (x + 1) q) false)
 
     inside : xor (slots (λ k. getD (merged T w .correction) k false) a) (inWindow p (a .round) && at (merged T w) g .defect)
         ≡ xor (slots (λ k. getD (w .correction) k false) a) (inWindow p (a .round) && at w g .defect)

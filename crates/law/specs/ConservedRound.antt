@@ -17,7 +17,9 @@ use Rattle.window.specs.Lists.{bit, xor}
 use Rattle.window.specs.LawsLists.{and-not}
 use Rattle.window.specs.Round.{rounded}
 use Rattle.closure.specs.Suited.{Suited}
-use Rattle.law.specs.Law.{Played, Spot, Detector, ends, height, distance, last, entry, received, Conserved}
+use Rattle.closure.specs.Facts.{Facts}
+use Rattle.law.specs.Law.{Played, Spot, ends, height, distance, last, entry}
+use Rattle.law.specs.Everywhere.{Detector, received, Conserved}
 use Rattle.law.specs.Rules.{taken}
 use Rattle.law.specs.Bits.{xor-none, none-xor, byte-bit}
 use Rattle.law.specs.Sums.{parity, parity-more, parity-same, parity-none}
@@ -27,7 +29,10 @@ use Rattle.law.specs.Layered.{Layered}
 use Rattle.law.specs.RoundEdges.{old-edge, new-edge, ends-below}
 use Rattle.law.specs.RoundDefects.{old-defect, new-defect, old-received, new-received}
 
-module _ (T : Table) (S : Suited T) (L : Layered T) (p : Played) (defects : List ℕ) (r : Ranged (height p) (distance p)) where
+module _ (T : Table) (S : Suited T) (L : Layered T) (p : Played) (defects : List ℕ) (f : Facts T (p .window)) where
+  abbrev r : Ranged (height p) (distance p)
+  r = f .ranged
+
   abbrev after : Played
   after = taken T p defects
 
@@ -51,8 +56,8 @@ module _ (T : Table) (S : Suited T) (L : Layered T) (p : Played) (defects : List
       ∙ ap₂ (λ (x y : Bool). xor x y)
       (parity-same (terms (corrected T after) a) (terms (corrected T p) a) (last p + 1) (λ n m.
       let high : n ≤ last p = omega arith in
-      parity-same _ (λ i. corrected T p n i && ends T n (edgeOf h d i) a) E (λ i l. ap (λ (b : Bool). b && ends T n (edgeOf h d i) a) (old-edge T S L p defects r n i l high))))
-      (parity-none (λ i. corrected T after (last p + 1) i && ends T (last p + 1) (edgeOf h d i) a) E (λ i l. and-not _ _ (new-edge T S L p defects r (last p + 1) i l refl)))
+      parity-same _ (λ i. corrected T p n i && ends T n (edgeOf h d i) a) E (λ i l. ap (λ (b : Bool). b && ends T n (edgeOf h d i) a) (old-edge T S L p defects f n i l high))))
+      (parity-none (λ i. corrected T after (last p + 1) i && ends T (last p + 1) (edgeOf h d i) a) E (λ i l. and-not _ _ (new-edge T S L p defects f (last p + 1) i l refl)))
       ∙ xor-none (ended T p (corrected T p) a)
 
   ended-new : (a : Spot) → a .round ≡ last p + 1 → ended T p (corrected T p) a ≡ false

@@ -6,7 +6,6 @@ use mathlib.Core.List.{List, [], _∷_, _++_}
 use lib.Dec.{ltb, leb, eqb}
 use lib.ListN.{length, getD}
 use Rattle.refusal.specs.Answer.{done, valueOr, itself}
-use Rattle.shape.specs.Choice.{if}
 use Rattle.shape.specs.Sizes.{sheetsOf, layerEdgesOf}
 use Rattle.shape.specs.Nodes.{indexOf, numberOf}
 use Rattle.steps.specs.Steps.{Table, step, goes}
@@ -118,6 +117,10 @@ sum (suc n) f = sum n f + f n
 abbrev pub noReceipt : Receipt
 noReceipt = record { defects = []; edges = []; escapes = [] }
 
+-- nothing left with the round: all bytes of both buffers are 0
+abbrev pub NothingLeft : Receipt → Type 0
+NothingLeft r = (i : ℕ) → (getD (r .edges) i 0 ≡ 0) × (getD (r .escapes) i 0 ≡ 0)
+
 module _ (p : Played) where
   abbrev pub height : ℕ
   height = p .window .shape .height
@@ -128,8 +131,8 @@ module _ (p : Played) where
   abbrev pub sheets : ℕ
   sheets = sheetsOf distance
 
-  -- Rounds 0 to b, b = s - 1, are received, empty; the first round call that is not refused, plain or raw, receives round s, each later one
-  -- the round after. This is the last one received.
+  -- Rounds 0 to b, b = s - 1, are absent; the first round call that is not refused, plain or raw, receives round s, each later one the round
+  -- after. This is the last one.
   abbrev pub last : ℕ
   last = sheets - 1 + length (p .receipts)
 
@@ -148,9 +151,9 @@ module _ (p : Played) where
   abbrev pub entry : Spot → ℕ
   entry a = a .row * (distance - 1) + (a .column - 1)
 
-  -- the defect received is its byte in the receipt of the call that received the round, 0 in rounds 0 to b
+  -- the defect received is its byte in the receipt of the call that received the round, a supplied one
   abbrev pub received : Spot → ℕ
-  received a = if (ltb (a .round) sheets) 0 (getD (receipt (a .round - sheets) .defects) (entry a) 0)
+  received a = getD (receipt (a .round - sheets) .defects) (entry a) 0
 
   -- committed is an edge of round n's layer whose byte the call that receives round n + s left 1 in the edge buffer
   abbrev pub committed : ℕ → ℕ → Bool
@@ -164,8 +167,9 @@ module _ (p : Played) where
   abbrev pub escaped : Spot → Bool
   escaped a = eqb (getD (receipt (a .round) .escapes) (entry a) 0) 1
 
-  -- a detector of a round received
+  -- a detector of a supplied round
   pub record Detector (a : Spot) : Type 0 where
+    pub supplied : sheets ≤ a .round
     pub arrived : a .round ≤ last
     pub row : a .row < height
     pub west : 1 ≤ a .column
@@ -180,7 +184,7 @@ module _ (T : Table) (p : Played) where
       && reach T (height p) (distance p) (present (p .window)) (namer T (e .kind)) (placeNow p (nearEnd n e)) .there
       && getD (p .window .correction) (edgeSlot T (height p) (distance p) (last p - n) e) false
 
-  -- the number of edges of a sort that end at a detector: over the layers of all rounds received, and the edges i of each
+  -- the number of edges of a sort that end at a detector: over the layers of all rounds up to the last, and the edges i of each
   abbrev pub ending : (ℕ → ℕ → Bool) → Spot → ℕ
   ending sort a =
       sum (last p + 1) (λ n. sum (layerEdgesOf (height p) (distance p)) (λ i. bit (sort n i && ends T n (edgeOf (height p) (distance p) i) a)))
@@ -233,7 +237,7 @@ module _ (T : Table) (w : Window) where
 
 -- THE LAW
 
--- for every detector of every round received, modulo 2
+-- for every detector of every supplied round, modulo 2
 abbrev pub Conserved : Table → Played → Type 0
 Conserved T p =
     (a : Spot) → Detector p a
@@ -242,6 +246,8 @@ Conserved T p =
 pub record Law (T : Table) (fresh : Window) (p : Played) : Type 0 where
   -- no defect is lost
   pub conserved : Conserved T p
+  -- nothing leaves with an absent round
+  pub absent : (n : ℕ) → n < sheets p → NothingLeft (receipt p n)
   -- whenever the list leaves the window at rest
   pub rested : isRest (p .window .stage) ≡ true → Rested T (p .window)
   -- the shape is the fresh window's, and depth k holds round next - 1 - k

@@ -13,7 +13,7 @@ use Rattle.layers.specs.Layer.{edgeOf}
 use Rattle.layers.specs.LawsEdge.{nodeOf}
 use Rattle.layers.specs.declared.Edge.{Edge}
 use Rattle.steps.specs.declared.Step.{Step}
-use Rattle.window.specs.Window.{namer}
+use Rattle.window.specs.Window.{namer, present}
 use Rattle.closure.specs.Suited.{Suited}
 use Rattle.closure.specs.Edges.{edge, edge-there}
 use Rattle.law.specs.Law.{Played, height, distance, sheets, last, inWindow}
@@ -49,11 +49,17 @@ module _ (T : Table) (S : Suited T) (L : Layered T) (h d i : ℕ) (r : Ranged h 
 pub edged-clear : (T : Table) (p : Played) (n i : ℕ) → edged T p n i ≡ true → Clear (way T (height p) (distance p) i .sheet) (last p - n)
 edged-clear T p n i x =
     let e = edgeOf (height p) (distance p) i in
-    edge T (height p) (distance p) (sheets p) (namer T (e .kind)) (nodeOf (last p - n) e) (halves (inWindow p n) _ x .1) .sheet
+    edge T (height p) (distance p) (present (p .window)) (namer T (e .kind)) (nodeOf (last p - n) e) (halves (inWindow p n) _ x .1) .sheet
+
+pub edged-there : (T : Table) (p : Played) (n i : ℕ) → edged T p n i ≡ true → last p - n < present (p .window)
+edged-there T p n i x =
+    let e = edgeOf (height p) (distance p) i in
+    edge T (height p) (distance p) (present (p .window)) (namer T (e .kind)) (nodeOf (last p - n) e) (halves (inWindow p n) _ x .1) .from .depth
 
 pub edged-in : (T : Table) → Layered T → (p : Played) → Ranged (height p) (distance p) → (n i : ℕ) → i < layerEdgesOf (height p) (distance p)
-    → n ≤ last p → last p - n < sheets p → Clear (way T (height p) (distance p) i .sheet) (last p - n) → edged T p n i ≡ true
+    → n ≤ last p → last p - n < present (p .window) → Clear (way T (height p) (distance p) i .sheet) (last p - n) → edged T p n i ≡ true
 edged-in T L p r n i l a b c =
     let e = edgeOf (height p) (distance p) i in
-    both _ _ (in-window p n a b)
-    (edge-there T (height p) (distance p) (sheets p) (namer T (e .kind)) (nodeOf (last p - n) e) (L .edges (height p) (distance p) (sheets p) (last p - n) i r l b c))
+    let b' : last p - n < sheets p = omega arith in
+    both _ _ (in-window p n a b')
+    (edge-there T (height p) (distance p) (present (p .window)) (namer T (e .kind)) (nodeOf (last p - n) e) (L .edges (height p) (distance p) (present (p .window)) (last p - n) i r l b c))

@@ -10,7 +10,6 @@ pub mod Sums
 pub mod Nodes
 pub mod Ways
 pub mod Naming
-pub mod LowerNumbers
 pub mod LowerSlots
 -- the clusters: what holds of them in each stage
 pub mod Graph
@@ -27,6 +26,7 @@ pub mod ClustersRest
 pub mod Rested
 pub mod Clusters
 -- conservation: no defect is lost
+pub mod Everywhere
 pub mod Spots
 pub mod Receipts
 pub mod Conserved
@@ -35,6 +35,7 @@ pub mod ConservedGrow
 pub mod Layered
 pub mod LayerEdges
 pub mod LayerEnds
+pub mod Absent
 pub mod RoundEdges
 pub mod RoundDefects
 pub mod ConservedRound

@@ -24,11 +24,11 @@ use Rattle.steps.specs.declared.Shift.{Shift}
 use Rattle.steps.specs.declared.Step.{Step}
 use Rattle.window.specs.Lists.{over}
 use Rattle.window.specs.Round.{atTop, fallenSlot}
-use Rattle.window.specs.Window.{namer, size, sheet}
+use Rattle.window.specs.Window.{namer, size, supplied}
 use Rattle.window.specs.declared.Window.{Window}
 use Rattle.closure.specs.Suited.{Suited}
 use Rattle.closure.specs.Edges.{edge-near}
-use Rattle.closure.specs.Facts.{index-within}
+use Rattle.closure.specs.Facts.{index-within, present-within}
 use Rattle.closure.specs.After.{top-slot, sunk-slot}
 use Rattle.closure.specs.Lower.{lower, index-lower}
 use Rattle.law.specs.Naming.{namer-is}
@@ -81,14 +81,14 @@ module _ (T : Table) (w : Window) (r : Ranged (w .shape .height) (w .shape .dist
 
   module _ (S : Suited T) where
     -- by a direction: from the end that names the edge
-    falls-own : (p : ℕ) → step T p .own ≡ true → (q : Place) → Joins h d s (step T p) q → Inside h d s (lower q) → getD new (slot T h d p (lower q)) z ≡ getD old (slot T h d p q) z
-    falls-own p o q j i =
+    falls-own : (k p : ℕ) → step T p .own ≡ true → (q : Place) → Joins h d k (step T p) q → Inside h d s (lower q) → getD new (slot T h d p (lower q)) z ≡ getD old (slot T h d p q) z
+    falls-own k p o q j i =
         let pointer = points T p (j .moves) in
         ap (λ (n : ℕ). getD new n z) (slot-own T h d p (lower q) o)
         ∙ slot-old (step T p .kind) (S .proper .opposed p pointer .kind) q i (subst (λ (n : ℕ). Clear (step T n .sheet) (q .depth)) (sym (namer-is T S p pointer o)) (j .sheet))
         ∙ ap (λ (n : ℕ). getD old n z) (sym (slot-own T h d p q o))
 
-    module _ (p : ℕ) (q : Place) (j : Joins h d s (step T p) q) (m : Joins h d s (step T p) (lower q)) where
+    module _ (p : ℕ) (q : Place) (k next : ℕ) (j : Joins h d k (step T p) q) (m : Joins h d (supplied d next s) (step T p) (lower q)) where
       -- from the other
       falls-other : step T p .own ≡ false → getD new (slot T h d p (lower q)) z ≡ getD old (slot T h d p q) z
       falls-other o =
@@ -97,12 +97,12 @@ module _ (T : Table) (w : Window) (r : Ranged (w .shape .height) (w .shape .dist
           let opposed = P .opposed p (points T p (j .moves)) in
           let q' = across (step T p) q in
           let e = across-lower (step T p) q (j .sheet) in
-          let a = slot-back T P h d s p q q' (edge-near T h d s p q j) in
-          let b = slot-back T P h d s p (lower q) (across (step T p) (lower q)) (edge-near T h d s p (lower q) m) in
+          let a = slot-back T P h d k p q q' (edge-near T h d k p q j) in
+          let b = slot-back T P h d (supplied d next s) p (lower q) (across (step T p) (lower q)) (edge-near T h d (supplied d next s) p (lower q) m) in
           ap (λ (n : ℕ). getD new n z) (sym b ∙ ap (λ (x : Place). slot T h d back x) e)
-          ∙ falls-own back (opposed .reversed .own ∙ ap not o) q' (joins-back h d s (step T p) (step T back) (opposed .reversed) q j)
-          (subst (λ (x : Place). Inside h d s x) e (m .to))
+          ∙ falls-own k back (opposed .reversed .own ∙ ap not o) q' (joins-back h d k (step T p) (step T back) (opposed .reversed) q j)
+          (subst (λ (x : Place). Inside h d s x) e (present-within h d next _ (m .to)))
           ∙ ap (λ (n : ℕ). getD old n z) a
 
       pub slot-falls : getD new (slot T h d p (lower q)) z ≡ getD old (slot T h d p q) z
-      slot-falls = ⊎-elim (λ o. falls-own p o q j (m .from)) falls-other (tell (step T p .own))
+      slot-falls = ⊎-elim (λ o. falls-own k p o q j (present-within h d next _ (m .from))) falls-other (tell (step T p .own))

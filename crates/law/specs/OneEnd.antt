@@ -20,7 +20,7 @@ OneEnded p = (a : Spot) → Detector p a → received p a % 2 ≡ (once p a + en
 
 detector : Detector (tie 3) spot
 unfolding opened
-detector = record { arrived = omega arith; row = omega arith; west = omega arith; east = omega arith }
+detector = record { supplied = omega arith; arrived = omega arith; row = omega arith; west = omega arith; east = omega arith }
 
 none : once (tie 3) spot ≡ 0
 unfolding opened

@@ -1,7 +1,7 @@
 -- MERGING: what a step conserves at a detector of the window, its defect and the correction bits around it. Assumes nothing.
 use Prim.Native.Nat.{ℕ, _+_, _-_, _≤_, _<_}
 use native.Mathlib.Omega.{arith}
-use mathlib.Core.Path.{_≡_, refl, sym, _∙_, ap, ap₂}
+use mathlib.Core.Path.{_≡_, refl, sym, _∙_, ap, ap₂, subst}
 use mathlib.Core.Bool.{Bool, true, false, _&&_, not}
 use mathlib.Core.List.{List}
 use mathlib.Core.Logic.{⊎-elim}
@@ -10,7 +10,7 @@ use lib.Dec.{eqb}
 use lib.ListN.{length, getD}
 use Rattle.shape.specs.Choice.{if-true, if-false, tell}
 use Rattle.shape.specs.Ranges.{Ranged}
-use Rattle.shape.specs.Sizes.{sheetsOf, boundary}
+use Rattle.shape.specs.Sizes.{boundary}
 use Rattle.shape.specs.Nodes.{indexOf}
 use Rattle.shape.specs.LawsIndex.{index-place}
 use Rattle.steps.specs.Steps.{Table, step, across, slot}
@@ -20,14 +20,14 @@ use Rattle.steps.specs.LawsStep.{namer as namedBy}
 use Rattle.shape.specs.declared.Place.{Place}
 use Rattle.window.specs.Lists.{xor}
 use Rattle.window.specs.LawsLists.{and-no}
-use Rattle.window.specs.Window.{isMerging, namer, size, at, place, detector, to}
+use Rattle.window.specs.Window.{isMerging, namer, size, supplied, present, at, place, detector, to}
 use Rattle.window.specs.Merging.{pushes, sends, hot, flipped, seen, stepped, stepAt, merged}
 use Rattle.window.specs.declared.Seen.{Seen}
 use Rattle.window.specs.declared.Window.{Window}
-use Rattle.closure.specs.States.{merging-not-grow}
+use Rattle.closure.specs.States.{merging-led}
 use Rattle.closure.specs.Suited.{Suited}
 use Rattle.closure.specs.Edges.{edge, edge-there, edge-to}
-use Rattle.closure.specs.Facts.{Pointing, centre, along, out, Facts, index-within}
+use Rattle.closure.specs.Facts.{Pointing, centre, along, Facts, index-within, present-within}
 use Rattle.closure.specs.Sight.{sight, seen-edge, seen-none}
 use Rattle.closure.specs.After.{merged-at, flipped-slot}
 use Rattle.law.specs.Bits.{xor-laws}
@@ -63,8 +63,8 @@ module _ (T : Table) (w : Window) where
   abbrev d : ℕ
   d = w .shape .distance
 
-  abbrev s : ℕ
-  s = sheetsOf d
+  abbrev there : ℕ
+  there = present w
 
   -- over an edge is seen the node across, which may push back
   module _ (g v : ℕ) (t : to w T v g .there ≡ true) (k : ℕ) (e : k + 1 ≡ v) where
@@ -83,8 +83,8 @@ module _ (T : Table) (w : Window) where
     abbrev old : Bool
     old = getD (w .correction) (slot T h d v q) false
 
-    j : Joins h d s (step T v) q
-    j = edge T h d s v q t
+    j : Joins h d there (step T v) q
+    j = edge T h d there v q t
 
     pointed : Points T v
     pointed = points T v (j .moves)
@@ -95,7 +95,7 @@ module _ (T : Table) (w : Window) where
     unfolding slot
     flips n p e x =
         let m = namedBy T v q in
-        flipped-slot T w (indexOf h d m) (step T v .kind) (index-within h d r m (named-joins T S h d s q v j .from)) (S .proper .opposed v pointed .kind)
+        flipped-slot T w (indexOf h d m) (step T v .kind) (index-within h d r m (present-within h d (w .next) m (named-joins T S h d there q v j .from))) (S .proper .opposed v pointed .kind)
         ∙ ap₂ (λ (n p : ℕ). flipped old (detector w n) (at w n) p (seen T w n (p - 1))) e x
 
     abbrev Flips : ℕ → Type 0
@@ -116,7 +116,7 @@ module _ (T : Table) (w : Window) where
         let O = S .proper .opposed v pointed in
         let t' = there-back T w g v t S in
         let b1 : b - 1 + 1 ≡ b = let l = O .back .0 in omega arith in
-        flips u b (ap (λ (x : Place). indexOf h d x) (if-false (step T v .own) q (across (step T v) q) o) ∙ sym (edge-to T h d s v q j)) (namer-back T S v pointed o)
+        flips u b (ap (λ (x : Place). indexOf h d x) (if-false (step T v .own) q (across (step T v) q) o) ∙ sym (edge-to T h d there v q j)) (namer-back T S v pointed o)
         ∙ if-true (seen T w u (b - 1) .there) _ old (ap (λ (x : Seen). x .there) (seen-way u b t' (b - 1) b1))
         ∙ last old (pushes (detector w u) (at w u) b) (seen T w u (b - 1) .pushes)
         ∙ ap₂ (λ (x y : Bool). xor (xor old x) y)
@@ -156,17 +156,16 @@ module _ (T : Table) (w : Window) where
 
     -- its own push goes along one direction, if along any
     pushes-once : parity K pushAt ≡ sends (detector w g) (at w g)
-    pushes-once = go (f .nodes g l .pointer)
+    pushes-once = go (subst (λ (k : ℕ). Pointing T h d k (place w g) (at w g .pointer)) (ap (supplied d (w .next)) (merging-led d (w .stage) st)) (f .nodes g l .pointer))
       where
-        go : Pointing T (w .stage) h d (place w g) (at w g .pointer) → parity K pushAt ≡ sends (detector w g) (at w g)
+        go : Pointing T h d there (place w g) (at w g .pointer) → parity K pushAt ≡ sends (detector w g) (at w g)
         go (centre e) = sent-none thereAt (hot (detector w g) (at w g)) (at w g .pointer) K e
         go (along j) =
             let v = at w g .pointer in
             let i = points T v (j .moves) in
             let lo = i .0 in
             let e : v - 1 + 1 ≡ v = omega arith in
-            sent-one thereAt (hot (detector w g) (at w g)) v K (i .0) (i .1) (ap (λ (n : ℕ). to w T n g .there) e ∙ edge-there T h d s v (place w g) j)
-        go (out a b c e) = absurd (merging-not-grow (w .stage) st a)
+            sent-one thereAt (hot (detector w g) (at w g)) v K (i .0) (i .1) (ap (λ (n : ℕ). to w T n g .there) e ∙ edge-there T h d there v (place w g) j)
 
     -- its defect
     defect-after : at (merged T w) g .defect ≡ xor (xor (at w g .defect) (sends (detector w g) (at w g))) (parity K (λ x. seen T w g x .pushes))

@@ -24,7 +24,8 @@ use Rattle.window.specs.Round.{detectorAt, rounded, topNode as arriving, escape
 use Rattle.closure.specs.Facts.{index-within}
 use Rattle.closure.specs.After.{top-at, sunk-at}
 use Rattle.closure.specs.Lower.{lower, index-lower}
-use Rattle.law.specs.Law.{Played, Receipt, Spot, height, distance, sheets, last, receipt, placeNow, entry, received}
+use Rattle.law.specs.Law.{Played, Receipt, Spot, height, distance, sheets, last, receipt, placeNow, entry}
+use Rattle.law.specs.Everywhere.{received}
 use Rattle.law.specs.Rules.{taken}
 use Rattle.law.specs.Bits.{bit-one}
 use Rattle.law.specs.Nodes.{defects as same-defects}

@@ -1,5 +1,5 @@
 -- ROUND changes no correction bit of a layer already received: those of the bottom layer go to the edge buffer. Assumes nothing.
-use Prim.Native.Nat.{ℕ, _+_, _-_, _≤_, _<_}
+use Prim.Native.Nat.{ℕ, _+_, _-_, _≤_, _<_, min}
 use native.Mathlib.Omega.{arith}
 use mathlib.Core.Path.{_≡_, refl, sym, _∙_, ap, ap₂}
 use mathlib.Core.Bool.{Bool, true, false, _&&_}
@@ -17,20 +17,33 @@ use Rattle.layers.specs.Layer.{edgeOf}
 use Rattle.layers.specs.LawsEdge.{nodeOf}
 use Rattle.window.specs.Lists.{bit}
 use Rattle.window.specs.LawsLists.{getD-by, and-no, and-not}
+use Rattle.window.specs.Window.{namer, present, reach}
 use Rattle.window.specs.Round.{edgeSlot, rounded, committedEdges as leaving}
 use Rattle.closure.specs.Lists.{other}
+use Rattle.closure.specs.Facts.{Facts}
 use Rattle.closure.specs.Suited.{Suited}
 use Rattle.law.specs.Law.{Played, Receipt, Spot, ends, height, distance, sheets, last, receipt, pending}
 use Rattle.law.specs.Rules.{taken}
 use Rattle.law.specs.Bits.{refuted, bit-one}
 use Rattle.law.specs.LowerSlots.{slot-new, slot-old}
-use Rattle.law.specs.Spots.{ends-at}
+use Rattle.law.specs.Spots.{ends-at, in-window}
 use Rattle.law.specs.Receipts.{old-receipt, new-receipt, counts, lower-than, three}
 use Rattle.law.specs.Conserved.{edged, slotOf, corrected, left-edge, held-edge}
 use Rattle.law.specs.Layered.{Layered}
-use Rattle.law.specs.LayerEdges.{way, way-opposed, edged-in, edged-clear, named-inside}
+use Rattle.law.specs.Absent.{unset}
+use Rattle.law.specs.LayerEdges.{way, way-opposed, edged-in, edged-there, edged-clear, named-inside}
 
-module _ (T : Table) (S : Suited T) (L : Layered T) (p : Played) (defects : List ℕ) (r : Ranged (height p) (distance p)) where
+-- a sheet that is there is so one sheet down, and one that is not is not
+there-lower : (s next j : ℕ) → s ≤ next → j < min s (next - s) → j + 1 < s → j + 1 < min s (next + 1 - s)
+there-lower s next j u b m = omega arith
+
+absent-lower : (s next j k : ℕ) → s ≤ next → min s (next - s) ≤ j → k ≡ j + 1 → k < min s (next + 1 - s) → ⊥
+absent-lower s next j k u b e m = omega arith
+
+module _ (T : Table) (S : Suited T) (L : Layered T) (p : Played) (defects : List ℕ) (f : Facts T (p .window)) where
+  abbrev r : Ranged (height p) (distance p)
+  r = f .ranged
+
   abbrev after : Played
   after = taken T p defects
 
@@ -78,15 +91,20 @@ module _ (T : Table) (S : Suited T) (L : Layered T) (p : Played) (defects : List
     bottom-before : n ≡ count → corrected T p n i ≡ bottomBit
     bottom-before e =
         let t = three p r in
-        let rise = way-opposed T S L h d i r l .rise in
         let a : n ≤ last p = omega arith in
         let b : last p - n < s = omega arith in
-        let c : Clear (way T h d i .sheet) (last p - n) = omega (arith, rise) in
         let j : last p - n ≡ s - 1 = omega arith in
         let g : count ≤ n = omega arith in
+        let there = reach T h d (present (p .window)) (namer T kind) (nodeOf (last p - n) (edgeOf h d i)) .there in
+        let slot = getD (p .window .correction) (slotOf T p n i) false in
         held-edge T p n i g
-        ∙ ap (λ (b : Bool). b && getD (p .window .correction) (slotOf T p n i) false) (edged-in T L p r n i l a b c)
+        ∙ ap (λ (x : Bool). x && there && slot) (in-window p n a b)
+        ∙ absorbed there slot (unset T S L (p .window) f i l (last p - n) b)
         ∙ ap (λ (k : ℕ). getD (p .window .correction) (edgeSlot T h d k (edgeOf h d i)) false) j
+      where
+        absorbed : (x y : Bool) → (x ≡ false → y ≡ false) → true && x && y ≡ y
+        absorbed true y f = refl
+        absorbed false y f = sym (f refl)
 
     -- a layer of the window, above the bottom one
     module _ (low : count < n) (high : n ≤ last p) where
@@ -96,19 +114,32 @@ module _ (T : Table) (S : Suited T) (L : Layered T) (p : Played) (defects : List
       lower-by : last after - n ≡ j + 1
       lower-by = lower-than T p defects n high
 
-      stays-clear : Clear (way T h d i .sheet) j → pending T after n i ≡ pending T p n i
+      -- it is not the bottom one
+      upper : j + 1 < s
+      upper = let t = three p r in omega arith
+
+      not-later : n ≤ last after
       unfolding rounded
-      stays-clear c =
-          let t = three p r in
-          let e = counts T p defects in
-          let b : j < s = omega arith in
-          let a' : n ≤ last after = omega arith in
-          let b' : last after - n < s = omega arith in
-          let c' : Clear (way T h d i .sheet) (last after - n) = omega arith in
-          let m : j + 1 < s = omega arith in
-          ap₂ (λ (x : Bool) (k : ℕ). x && getD (after .window .correction) (edgeSlot T h d k (edgeOf h d i)) false) (edged-in T L after r n i l a' b' c') lower-by
-          ∙ slot-old T (p .window) r false (p .window .correction) kind kind-lt (nodeOf j (edgeOf h d i)) (named-inside T S L h d i r l s (j + 1) m) c
+      not-later = let e = counts T p defects in omega arith
+
+      clear-lower : Clear (way T h d i .sheet) j → Clear (way T h d i .sheet) (last after - n)
+      clear-lower c = rw lower-by (omega arith)
+
+      stays-clear : j < present (p .window) → Clear (way T h d i .sheet) j → pending T after n i ≡ pending T p n i
+      unfolding rounded
+      stays-clear b c =
+          let b' : last after - n < present (after .window) = rw lower-by (there-lower s (p .window .next) j (f .next) b upper) in
+          ap₂ (λ (x : Bool) (k : ℕ). x && getD (after .window .correction) (edgeSlot T h d k (edgeOf h d i)) false) (edged-in T L after r n i l not-later b' (clear-lower c)) lower-by
+          ∙ slot-old T (p .window) r false (p .window .correction) kind kind-lt (nodeOf j (edgeOf h d i)) (named-inside T S L h d i r l s (j + 1) upper) c
           ∙ sym (ap (λ (x : Bool). x && getD (p .window .correction) (slotOf T p n i) false) (edged-in T L p r n i l high b c))
+
+      -- nothing is pending where the edge is absent, before and after
+      stays-absent : present (p .window) ≤ j → pending T after n i ≡ pending T p n i
+      unfolding rounded
+      stays-absent b =
+          let m = absent-lower s (p .window .next) j (last after - n) (f .next) b lower-by in
+          and-not (edged T after n i) _ (refuted (edged T after n i) (λ y. m (edged-there T after n i y)))
+          ∙ sym (and-not (edged T p n i) _ (refuted (edged T p n i) (λ y. let z = edged-there T p n i y in omega arith)))
 
       stays-top : j + way T h d i .sheet .more < way T h d i .sheet .less → pending T after n i ≡ pending T p n i
       unfolding rounded
@@ -124,7 +155,9 @@ module _ (T : Table) (S : Suited T) (L : Layered T) (p : Played) (defects : List
       edge-stays : corrected T after n i ≡ corrected T p n i
       edge-stays =
           let e = counts T p defects in
-          held-edge T after n i (omega arith) ∙ ⊎-elim stays-top stays-clear (order (j + way T h d i .sheet .more) (way T h d i .sheet .less)) ∙ sym (held-edge T p n i (omega arith))
+          held-edge T after n i (omega arith)
+          ∙ ⊎-elim (λ b. ⊎-elim stays-top (stays-clear b) (order (j + way T h d i .sheet .more) (way T h d i .sheet .less))) stays-absent (order j (present (p .window)))
+          ∙ sym (held-edge T p n i (omega arith))
 
     -- no bit of a layer already received changes
     pub old-edge : n ≤ last p → corrected T after n i ≡ corrected T p n i

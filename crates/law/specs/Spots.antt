@@ -16,7 +16,8 @@ use Rattle.window.specs.LawsLists.{and-no}
 use Rattle.window.specs.Window.{size}
 use Rattle.closure.specs.Lists.{choice}
 use Rattle.closure.specs.Facts.{index-within}
-use Rattle.law.specs.Law.{Played, Spot, Detector, nearEnd, farEnd, same, ends, placeNow, height, distance, sheets, last, inWindow}
+use Rattle.law.specs.Law.{Played, Spot, nearEnd, farEnd, same, ends, placeNow, height, distance, sheets, last, inWindow}
+use Rattle.law.specs.Everywhere.{Detector}
 
 -- SPOTS
 

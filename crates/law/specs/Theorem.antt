@@ -1,5 +1,5 @@
 -- DEMAND 3 HOLDS: the law after every list of calls. Assumes nothing.
-use Prim.Native.Nat.{_+_}
+use Prim.Native.Nat.{ℕ, _+_, _<_}
 use native.Mathlib.Omega.{arith}
 use mathlib.Core.Path.{_≡_, refl, sym, subst}
 use mathlib.Core.List.{List}
@@ -16,8 +16,10 @@ use Rattle.window.specs.Merging.{merged}
 use Rattle.window.specs.declared.Window.{Window}
 use Rattle.closure.specs.Suited.{Suited, suited-base}
 use Rattle.closure.specs.Done.{started}
+use Rattle.closure.specs.Facts.{facts}
 use Rattle.closure.specs.Closure.{kept-fresh}
-use Rattle.law.specs.Law.{Played, Call, Law, Demand3, play, start, last, Conserved}
+use Rattle.law.specs.Law.{Played, Call, NothingLeft, Law, Demand3, play, start, sheets, last, receipt}
+use Rattle.law.specs.Everywhere.{Conserved, of-supplied}
 use Rattle.law.specs.Rules.{Invariant}
 use Rattle.law.specs.Play.{playing}
 use Rattle.law.specs.Clusters.{Clustered, clustered-fresh, clustered, clustered-rested}
@@ -25,24 +27,31 @@ use Rattle.law.specs.Receipts.{later}
 use Rattle.law.specs.ConservedFresh.{conserved-fresh}
 use Rattle.law.specs.Layered.{Layered, layered-base}
 use Rattle.law.specs.Conservation.{conserved}
+use Rattle.law.specs.Absent.{absent-after}
 
--- the shape stays, and the next round is the one after the last
+-- the shape stays, the next round is the one after the last, and nothing left with an absent one
 record Counted (sh : Shape) (p : Played) : Type 0 where
   shape : p .window .shape ≡ sh
   next : p .window .next ≡ last p + 1
+  absent : (n : ℕ) → n < sheets p → NothingLeft (receipt p n)
 
 counted-fresh : (sh : Shape) → Counted sh (start (freshWindow sh))
 unfolding freshWindow
-counted-fresh sh = record { shape = refl; next = omega arith }
+counted-fresh sh = record { shape = refl; next = omega arith; absent = λ n l i. (refl, refl) }
 
-counted : (T : Table) (sh : Shape) → Invariant T (Counted sh)
+counted : (T : Table) → Suited T → Layered T → (sh : Shape) → Invariant T (Counted sh)
 unfolding rounded grown merged measuring
-counted T sh =
+counted T S L sh =
     record {
-      round = λ p defects k st bits i. record { shape = i .shape; next = let n = i .next in let m = later T p defects in omega arith };
-      replace = λ p bytes i. record { shape = i .shape; next = i .next };
-      grow = λ p k st i. record { shape = i .shape; next = i .next };
-      merging = λ p k st i. record { shape = i .shape; next = i .next };
+      round = λ p defects k st bits i.
+          record {
+            shape = i .shape;
+            next = let n = i .next in let m = later T p defects in omega arith;
+            absent = absent-after T S L p defects (facts T (p .window) (k .formed)) (i .next) (i .absent);
+          };
+      replace = λ p bytes i. record { shape = i .shape; next = i .next; absent = i .absent };
+      grow = λ p k st i. record { shape = i .shape; next = i .next; absent = i .absent };
+      merging = λ p k st i. record { shape = i .shape; next = i .next; absent = i .absent };
     }
 
 -- the sheet is the bytes of the last raw call
@@ -65,10 +74,11 @@ module _ (T : Table) (S : Suited T) (L : Layered T) where
       let k = kept-fresh T sh e in
       let a = playing T S (Conserved T) (conserved T S L) calls p k (conserved-fresh T sh e) in
       let b = playing T S (Clustered T) (clustered T S) calls p k (clustered-fresh T sh) in
-      let c = playing T S (Counted sh) (counted T sh) calls p k (counted-fresh sh) in
+      let c = playing T S (Counted sh) (counted T S L sh) calls p k (counted-fresh sh) in
       let s = playing T S Sheet (sheet-kept T) calls p k (sheet-fresh sh) in
       record {
-        conserved = a .1;
+        conserved = of-supplied T (play T p calls) (a .1);
+        absent = c .1 .absent;
         rested = clustered-rested T S (play T p calls) (b .0) (b .1);
         shape = c .1 .shape;
         next = c .1 .next;

@@ -2,7 +2,7 @@
 use Prim.Native.Nat.{ℕ}
 use mathlib.Core.Path.{_≡_, sym, _∙_, ap}
 use mathlib.Core.Bool.{true, not}
-use Rattle.shape.specs.Sizes.{sheetsOf, boundary}
+use Rattle.shape.specs.Sizes.{boundary}
 use Rattle.shape.specs.Nodes.{indexOf}
 use Rattle.shape.specs.LawsIndex.{index-place, place-index}
 use Rattle.steps.specs.Steps.{Table, step, across, slot}
@@ -10,7 +10,7 @@ use Rattle.steps.specs.Joins.{Joins}
 use Rattle.steps.specs.Proper.{Points, Reversed, points}
 use Rattle.steps.specs.LawsStep.{across-back, joins-back, slot-back}
 use Rattle.shape.specs.declared.Place.{Place}
-use Rattle.window.specs.Window.{place, detector, to}
+use Rattle.window.specs.Window.{present, place, detector, to}
 use Rattle.window.specs.declared.Window.{Window}
 use Rattle.closure.specs.Suited.{Suited}
 use Rattle.closure.specs.Edges.{edge, edge-near, edge-there, edge-to, edge-slot, edge-detector}
@@ -23,7 +23,7 @@ module _ (T : Table) (w : Window) where
   d = w .shape .distance
 
   abbrev k : ℕ
-  k = sheetsOf d
+  k = present w
 
   -- from v in direction p
   module _ (v p : ℕ) (e : to w T p v .there ≡ true) where

@@ -1,13 +1,12 @@
 -- The bottom layer's edges and the bottom sheet's detectors are named by nodes of the window. Assumes nothing.
-use Prim.Native.Nat.{ℕ, _+_, _-_, _/_, _%_, _<_}
-use native.Mathlib.Nat.{mod-lt, div-lt-iff-lt-mul}
+use Prim.Native.Nat.{ℕ, _+_, _-_, _<_}
 use native.Mathlib.Omega.{arith}
 use mathlib.Core.Path.{_≡_, _∙_}
 use borrow.Author.Tests.{lt-ltb}
 use Rattle.shape.specs.Choice.{if-true}
 use Rattle.shape.specs.Sizes.{sheetsOf, detectorsOf, layerEdgesOf}
 use Rattle.shape.specs.Ranges.{Ranged, in-range, both}
-use Rattle.shape.specs.Counting.{Inside}
+use Rattle.shape.specs.Counting.{Inside, wider}
 use Rattle.shape.specs.Nodes.{indexOf}
 use Rattle.steps.specs.Steps.{base}
 use Rattle.layers.specs.Layer.{edgeOf, edgeAt}
@@ -18,6 +17,7 @@ use Rattle.layers.specs.declared.Edge.{Edge}
 use Rattle.layers.specs.declared.EdgeFound.{EdgeFound}
 use Rattle.layers.specs.declared.EdgeFound.the-variants as listed
 use Rattle.window.specs.Round.{edgeSlot, detectorAt}
+use Rattle.window.specs.LawsRound.{detector-inside}
 
 has-inside : (h d j : ℕ) (e : Edge) → Has h d e → Inside h d (j + 1) (record { depth = j; row = e .row; column = e .column })
 has-inside h d j _ (along r c a b) = record { depth = omega arith; row = a; column = omega arith }
@@ -36,7 +36,7 @@ module _ (h d : ℕ) (r : Ranged h d) where
 
   low : (q : Place) → Inside h d (lowest + 1) q → indexOf h d q < 3600
   low q i =
-      let j : Inside h d (sheetsOf d) q = record { depth = omega (arith, i .depth); row = i .row; column = i .column } in
+      let j = wider h d (lowest + 1) (sheetsOf d) q (omega arith) i in
       omega (arith, index-lt h d (sheetsOf d) q j, window-le h d r)
 
   module _ (i : ℕ) (l : i < layerEdgesOf h d) where
@@ -54,15 +54,5 @@ module _ (h d : ℕ) (r : Ranged h d) where
     unfolding base
     edge-low = omega (arith, edge-node-low, edge-kind)
 
-  module _ (i : ℕ) (l : i < detectorsOf h d) where
-    pub width : 0 < d - 1
-    width = omega (arith, r .d2)
-
-    pub detector-row : i / (d - 1) < h
-    detector-row = div-lt-iff-lt-mul width .1 l
-
-    pub detector-column : i % (d - 1) + 1 < d
-    detector-column = omega (arith, mod-lt i width)
-
-    pub detector-low : indexOf h d (detectorAt d lowest i) < 3600
-    detector-low = low _ (record { depth = omega arith; row = detector-row; column = omega (arith, detector-column) })
+  pub detector-low : (i : ℕ) → i < detectorsOf h d → indexOf h d (detectorAt d lowest i) < 3600
+  detector-low i l = low _ (detector-inside h d r i l (lowest + 1) lowest (omega arith))

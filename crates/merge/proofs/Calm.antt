@@ -7,9 +7,10 @@ use mathlib.Core.Logic.{⊎-elim}
 use borrow.Author.Tests.{not-false, eqb-true, eqb-false}
 use lib.Dec.{eqb, ltb}
 use lib.ListN.{length, getD}
-use Rattle.shape.specs.Choice.{tell}
+use Rattle.shape.specs.Choice.{tell, order}
 use Rattle.shape.specs.Sizes.{sheetsOf, boundary, nodesOf}
 use Rattle.shape.specs.Ranges.{nodes-of}
+use Rattle.shape.specs.Counting.{wider}
 use Rattle.shape.specs.Nodes.{numberOf}
 use Rattle.steps.specs.Proper.{proper-base}
 use Rattle.steps.specs.Steps.{base, step, near}
@@ -20,7 +21,8 @@ use Rattle.shape.specs.declared.Found.the-variants.{At, Nowhere}
 use Rattle.shape.specs.declared.Place.{Place}
 use Rattle.window.specs.Lists.{over, any}
 use Rattle.window.specs.LawsLists.{any-next}
-use Rattle.window.specs.Window.{namer, nowhere, reach, at, place, size, detector}
+use Rattle.window.specs.LawsPresent.{supplied-le}
+use Rattle.window.specs.Window.{namer, nowhere, reach, present, at, place, size, detector}
 use Rattle.window.specs.Merging.{seen, stepAt, flippedSlot}
 use Rattle.window.specs.declared.Mark.{Mark}
 use Rattle.window.specs.declared.Mark.the-variants.{Reset, Root}
@@ -30,22 +32,23 @@ use Rattle.window.specs.declared.Way.{Way}
 use Rattle.window.specs.declared.Window.{Window}
 use Rattle.walk.specs.Walk.{Stands}
 use Rattle.walk.specs.LawsWalk.{peopled, nodes-max, stands, slot-at, none-there, way-there, named-east, named-south, named-up}
-use Rattle.walk.specs.Ways.{pos, less, north-none, north-index, north-way, west-none, west-index, west-way, east-none, east-way, south-none, south-way, down-none, down-way, up-none, up-index, up-way}
+use Rattle.walk.specs.Ways.{pos, less, absent-none, north-none, north-index, north-way, west-none, west-index, west-way, east-none, east-way, south-none, south-way, down-none, down-way, up-none, up-index, up-way}
 use Rattle.stir.specs.Stirred.{differ, loud, uneven, within, stirred}
 use Rattle.merge.proofs.Turn.{six-steps}
 use Rattle.stir.specs.Marks.{room, within-is, quiet, bitOf, spotOf, bit, spot, eastOf, southOf, upOf, unmarked, is-settled, no-east, no-south, no-up}
 use Rattle.merge.proofs.Peace.{Still, Rests, rests, neither, sees-still, sees-none, kept, bit-kept, over-kept}
 
 -- a way that is there leads to a node of the window
-leads-in : (h d p : ℕ) (q : Place) (y : Way) → y ≡ reach base h d (sheetsOf d) p q → y .there ≡ true → (g : ℕ) → g < nodesOf h d → y .node < nodesOf h d
-leads-in h d p q y e t g l = go (near base h d (sheetsOf d) p q) refl
+leads-in : (h d k p : ℕ) (q : Place) (y : Way) → k ≤ sheetsOf d → y ≡ reach base h d k p q → y .there ≡ true → (g : ℕ) → g < nodesOf h d → y .node < nodesOf h d
+leads-in h d k p q y a e t g l = go (near base h d k p q) refl
   where
-    go : (f : Found) → near base h d (sheetsOf d) p q ≡ f → y .node < nodesOf h d
+    go : (f : Found) → near base h d k p q ≡ f → y .node < nodesOf h d
     go (At q') f =
-        let i = index-lt h d (sheetsOf d) q' (near-inside base proper-base h d (sheetsOf d) p q q' f) in
-        rw (e, ← way-there base h d (sheetsOf d) p q q' f, nodes-of h d (peopled h d g l)) i
+        let i = near-inside base proper-base h d k p q q' f in
+        let j = wider h d k (sheetsOf d) q' a i in
+        rw (e, ← way-there base h d k p q q' f, nodes-of h d (peopled h d g l)) (index-lt h d (sheetsOf d) q' j)
     go Nowhere f =
-        let n : y ≡ nowhere = e ∙ sym (none-there base h d (sheetsOf d) p q f) in
+        let n : y ≡ nowhere = e ∙ sym (none-there base h d k p q f) in
         let m = rw n at t in
         let z : _≡_ {A = ℕ} 0 1 = cc in
         absurd (omega arith)
@@ -79,6 +82,12 @@ module _ (w : Window) (g : ℕ) (l : g < size w)
   abbrev here : Place
   here = place w g
 
+  abbrev there : ℕ
+  there = present w
+
+  few : there ≤ sheetsOf d
+  few = supplied-le d (w .next) (sheetsOf d)
+
   stand : Stands h d here g
   stand = stands h d (peopled h d g l) g l
 
@@ -107,11 +116,11 @@ module _ (w : Window) (g : ℕ) (l : g < size w)
 
   -- WHAT IT SEES, by the way
 
-  no-way : (k : ℕ) → nowhere ≡ reach base h d (sheetsOf d) (k + 1) here → Still m (seen base w g k)
+  no-way : (k : ℕ) → nowhere ≡ reach base h d there (k + 1) here → Still m (seen base w g k)
   unfolding seen
   no-way k e = rw (← e) (sees-none m _ _ _)
 
-  a-way : (k node slot : ℕ) (inner : Bool) → _≡_ {A = Way} (record { there = true; node = node; slot = slot; detector = inner }) (reach base h d (sheetsOf d) (k + 1) here)
+  a-way : (k node slot : ℕ) (inner : Bool) → _≡_ {A = Way} (record { there = true; node = node; slot = slot; detector = inner }) (reach base h d there (k + 1) here)
       → 1 ≤ step base (k + 1) .back → (eqb (getD (w .growth) slot 0) 2 ≡ true → at w node .mark ≡ Root m) → loud (at w node) ≡ false → Still m (seen base w g k)
   unfolding seen
   a-way k node slot inner e b s p = rw (← e) (sees-still m _ _ _ _ b s p)
@@ -130,103 +139,108 @@ module _ (w : Window) (g : ℕ) (l : g < size w)
       let z : within i ≡ g = within-is i a ∙ q in
       even-from x (at w j) (at w (within i)) m e (subst (λ (y : ℕ). at w y .mark ≡ Root m) (sym z) (rest .mark)) t
 
-  north : Still m (seen base w g 0)
-  unfolding base bit spot
-  north =
-      ⊎-elim
-      (λ e.
-      let i = north-index h d here g stand e in
-      let j = g - (d + 1) in
-      let n : j < size w = omega (arith, l) in
-      let q : j + 240 + (d + 1) ≡ g + 240 = omega (arith, i) in
-      let o : j + (d + 1) ≡ g = omega (arith, i) in
-      let f = neither (south-edge j) (loud (at w j)) (none j 2 n (omega arith) q) in
-      a-way 0 j (3 * j + 1) true (north-way h d here g stand e) (omega arith) (others (getD (w .growth) (3 * j + 1) 0) j (j + (d + 1)) (f .0) o) (f .1))
-      (λ e. no-way 0 (north-none h d here g stand e))
-      (tell (not (boundary d (here .column)) && ltb 0 (here .row)))
+  -- from a place that is there
+  module _ (t : here .depth < there) where
+    north : Still m (seen base w g 0)
+    unfolding base bit spot
+    north =
+        ⊎-elim
+        (λ e.
+        let i = north-index h d here g stand e in
+        let j = g - (d + 1) in
+        let n : j < size w = omega (arith, l) in
+        let q : j + 240 + (d + 1) ≡ g + 240 = omega (arith, i) in
+        let o : j + (d + 1) ≡ g = omega (arith, i) in
+        let f = neither (south-edge j) (loud (at w j)) (none j 2 n (omega arith) q) in
+        a-way 0 j (3 * j + 1) true (north-way h d here g stand e there t) (omega arith) (others (getD (w .growth) (3 * j + 1) 0) j (j + (d + 1)) (f .0) o) (f .1))
+        (λ e. no-way 0 (north-none h d here g stand there e))
+        (tell (not (boundary d (here .column)) && ltb 0 (here .row)))
 
-  west : Still m (seen base w g 1)
-  unfolding base bit spot
-  west =
-      ⊎-elim
-      (λ e. no-way 1 (west-none h d here g stand (eqb-true (here .column) 0 e)))
-      (λ e.
-      let c = pos (here .column) (eqb-false (here .column) 0 e) in
-      let i = west-index h d here g stand c in
-      let j = g - 1 in
-      let n : j < size w = omega (arith, l) in
-      let q : j + 240 + 1 ≡ g + 240 = omega (arith, i) in
-      let o : j + 1 ≡ g = omega (arith, i) in
-      let f = neither (east-edge j) (loud (at w j)) (none j 1 n (omega arith) q) in
-      let z : 3 * j + 0 ≡ 3 * j = omega arith in
-      a-way 1 j (3 * j + 0) (not (eqb (here .column) 1)) (west-way h d here g stand c) (omega arith) (rw z (others (getD (w .growth) (3 * j) 0) j (j + 1) (f .0) o)) (f .1))
-      (tell (eqb (here .column) 0))
+    west : Still m (seen base w g 1)
+    unfolding base bit spot
+    west =
+        ⊎-elim
+        (λ e. no-way 1 (west-none h d here g stand there (eqb-true (here .column) 0 e)))
+        (λ e.
+        let c = pos (here .column) (eqb-false (here .column) 0 e) in
+        let i = west-index h d here g stand c in
+        let j = g - 1 in
+        let n : j < size w = omega (arith, l) in
+        let q : j + 240 + 1 ≡ g + 240 = omega (arith, i) in
+        let o : j + 1 ≡ g = omega (arith, i) in
+        let f = neither (east-edge j) (loud (at w j)) (none j 1 n (omega arith) q) in
+        let z : 3 * j + 0 ≡ 3 * j = omega arith in
+        a-way 1 j (3 * j + 0) (not (eqb (here .column) 1)) (west-way h d here g stand c there t) (omega arith) (rw z (others (getD (w .growth) (3 * j) 0) j (j + 1) (f .0) o)) (f .1))
+        (tell (eqb (here .column) 0))
 
-  east : Still m (seen base w g 2)
-  unfolding base bit spot
-  east =
-      ⊎-elim
-      (λ e. no-way 2 (east-none h d here g stand (eqb-true (here .column) d e)))
-      (λ e.
-      let c = less (here .column) d (stand .inside .column) (eqb-false (here .column) d e) in
-      let y = east-way h d here g stand c in
-      let n = leads-in h d 3 here _ y refl g l in
-      let q : g + 1 + 240 - 1 ≡ g + 240 = omega arith in
-      let z : 3 * g + 0 ≡ 3 * g = omega arith in
-      let f = no-east (g + 240) (d + 1) (h * (d + 1)) (at w g) (east-edge g) (south-edge g) (up-edge g) is-quiet in
-      a-way 2 (g + 1) (3 * g + 0) (not (eqb (here .column + 1) d)) y (omega arith) (rw z (own (getD (w .growth) (3 * g) 0) (g + 1) (g + 1) f refl n)) (none (g + 1) 4 n (omega arith) q))
-      (tell (eqb (here .column) d))
+    east : Still m (seen base w g 2)
+    unfolding base bit spot
+    east =
+        ⊎-elim
+        (λ e. no-way 2 (east-none h d here g stand there (eqb-true (here .column) d e)))
+        (λ e.
+        let c = less (here .column) d (stand .inside .column) (eqb-false (here .column) d e) in
+        let y = east-way h d here g stand c there t in
+        let n = leads-in h d there 3 here _ few y refl g l in
+        let q : g + 1 + 240 - 1 ≡ g + 240 = omega arith in
+        let z : 3 * g + 0 ≡ 3 * g = omega arith in
+        let f = no-east (g + 240) (d + 1) (h * (d + 1)) (at w g) (east-edge g) (south-edge g) (up-edge g) is-quiet in
+        a-way 2 (g + 1) (3 * g + 0) (not (eqb (here .column + 1) d)) y (omega arith) (rw z (own (getD (w .growth) (3 * g) 0) (g + 1) (g + 1) f refl n)) (none (g + 1) 4 n (omega arith) q))
+        (tell (eqb (here .column) d))
 
-  south : Still m (seen base w g 3)
-  unfolding base bit spot
-  south =
-      ⊎-elim
-      (λ e.
-      let y = south-way h d here g stand e in
-      let j = g + (d + 1) in
-      let n = leads-in h d 4 here _ y refl g l in
-      let q : j + 240 - (d + 1) ≡ g + 240 = omega arith in
-      let f = no-south (g + 240) (d + 1) (h * (d + 1)) (at w g) (east-edge g) (south-edge g) (up-edge g) is-quiet in
-      a-way 3 j (3 * g + 1) true y (omega arith) (own (getD (w .growth) (3 * g + 1) 0) j j f refl n) (none j 5 n (omega arith) q))
-      (λ e. no-way 3 (south-none h d here g stand e))
-      (tell (not (boundary d (here .column)) && ltb (here .row + 1) h))
+    south : Still m (seen base w g 3)
+    unfolding base bit spot
+    south =
+        ⊎-elim
+        (λ e.
+        let y = south-way h d here g stand e there t in
+        let j = g + (d + 1) in
+        let n = leads-in h d there 4 here _ few y refl g l in
+        let q : j + 240 - (d + 1) ≡ g + 240 = omega arith in
+        let f = no-south (g + 240) (d + 1) (h * (d + 1)) (at w g) (east-edge g) (south-edge g) (up-edge g) is-quiet in
+        a-way 3 j (3 * g + 1) true y (omega arith) (own (getD (w .growth) (3 * g + 1) 0) j j f refl n) (none j 5 n (omega arith) q))
+        (λ e. no-way 3 (south-none h d here g stand there e))
+        (tell (not (boundary d (here .column)) && ltb (here .row + 1) h))
 
-  down : Still m (seen base w g 4)
-  unfolding base bit spot
-  down =
-      ⊎-elim
-      (λ e.
-      let y = down-way h d here g stand e in
-      let j = g + h * (d + 1) in
-      let n = leads-in h d 5 here _ y refl g l in
-      let q : j + 240 - h * (d + 1) ≡ g + 240 = omega arith in
-      let o : j - h * (d + 1) ≡ g = omega arith in
-      let f = neither (up-edge j) (loud (at w j)) (none j 3 n (omega arith) q) in
-      a-way 4 j (3 * j + 2) true y (omega arith) (others (getD (w .growth) (3 * j + 2) 0) j (j - h * (d + 1)) (f .0) o) (f .1))
-      (λ e. no-way 4 (down-none h d here g stand e))
-      (tell (not (boundary d (here .column)) && ltb (here .depth + 1) (sheetsOf d)))
+    down : Still m (seen base w g 4)
+    unfolding base bit spot
+    down =
+        ⊎-elim
+        (λ e.
+        let y = down-way h d here g stand there e in
+        let j = g + h * (d + 1) in
+        let n = leads-in h d there 5 here _ few y refl g l in
+        let q : j + 240 - h * (d + 1) ≡ g + 240 = omega arith in
+        let o : j - h * (d + 1) ≡ g = omega arith in
+        let f = neither (up-edge j) (loud (at w j)) (none j 3 n (omega arith) q) in
+        a-way 4 j (3 * j + 2) true y (omega arith) (others (getD (w .growth) (3 * j + 2) 0) j (j - h * (d + 1)) (f .0) o) (f .1))
+        (λ e. no-way 4 (down-none h d here g stand there e))
+        (tell (not (boundary d (here .column)) && ltb (here .depth + 1) there))
 
-  up : Still m (seen base w g 5)
-  unfolding base bit spot
-  up =
-      ⊎-elim
-      (λ e.
-      let j = g - h * (d + 1) in
-      let n : j < size w = omega (arith, l) in
-      let q : j + 240 + h * (d + 1) ≡ g + 240 = omega (arith, up-index h d here g stand e) in
-      let f = no-up (g + 240) (d + 1) (h * (d + 1)) (at w g) (east-edge g) (south-edge g) (up-edge g) is-quiet in
-      a-way 5 j (3 * g + 2) true (up-way h d here g stand e) (omega arith) (own (getD (w .growth) (3 * g + 2) 0) j j f refl n) (none j 6 n (omega arith) q))
-      (λ e. no-way 5 (up-none h d here g stand e))
-      (tell (not (boundary d (here .column)) && ltb 0 (here .depth)))
+    up : Still m (seen base w g 5)
+    unfolding base bit spot
+    up =
+        ⊎-elim
+        (λ e.
+        let j = g - h * (d + 1) in
+        let n : j < size w = omega (arith, l) in
+        let q : j + 240 + h * (d + 1) ≡ g + 240 = omega (arith, up-index h d here g stand e) in
+        let f = no-up (g + 240) (d + 1) (h * (d + 1)) (at w g) (east-edge g) (south-edge g) (up-edge g) is-quiet in
+        a-way 5 j (3 * g + 2) true (up-way h d here g stand e there t) (omega arith) (own (getD (w .growth) (3 * g + 2) 0) j j f refl n) (none j 6 n (omega arith) q))
+        (λ e. no-way 5 (up-none h d here g stand there e))
+        (tell (not (boundary d (here .column)) && ltb 0 (here .depth)))
+
+    each : (k : ℕ) → k < 6 → Still m (seen base w g k)
+    each zero a = north
+    each (suc zero) a = west
+    each (suc (suc zero)) a = east
+    each (suc (suc (suc zero))) a = south
+    each (suc (suc (suc (suc zero)))) a = down
+    each (suc (suc (suc (suc (suc zero))))) a = up
+    each (suc (suc (suc (suc (suc (suc k)))))) a = absurd (omega arith)
 
   still : (k : ℕ) → k < 6 → Still m (seen base w g k)
-  still zero a = north
-  still (suc zero) a = west
-  still (suc (suc zero)) a = east
-  still (suc (suc (suc zero))) a = south
-  still (suc (suc (suc (suc zero)))) a = down
-  still (suc (suc (suc (suc (suc zero))))) a = up
-  still (suc (suc (suc (suc (suc (suc k)))))) a = absurd (omega arith)
+  still k a = ⊎-elim (λ t. each t k a) (λ t. no-way k (absent-none base h d there (k + 1) here t)) (order (here .depth) there)
 
   -- ITS STEP
 

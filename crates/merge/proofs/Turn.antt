@@ -17,7 +17,7 @@ use Rattle.steps.specs.Steps.{base, step}
 use Rattle.shape.specs.declared.Place.{Place}
 use Rattle.window.specs.Lists.{byPlace, over, any}
 use Rattle.window.specs.LawsLists.{getD-by, over-all}
-use Rattle.window.specs.Window.{namer, reach, at, place, size}
+use Rattle.window.specs.Window.{namer, reach, present, at, place, size}
 use Rattle.window.specs.Merging.{nothing, sees, stepped, flipped, seen, stepAt, flippedSlot, merged}
 use Rattle.window.specs.declared.Node.{Node}
 use Rattle.window.specs.declared.Seen.{Seen}
@@ -52,10 +52,10 @@ module _ (h d g : ℕ) (f : Found) (l : g < nodesOf h d) (e : f ≡ indexedIn h 
 -- ONE NODE
 
 module _ (w : Window) (g : ℕ) (q : Place) (e : q ≡ place w g) where
-  pub seen-by : (k back : ℕ) (y : Way) → y ≡ reach base (w .shape .height) (w .shape .distance) (sheetsOf (w .shape .distance)) (k + 1) q
+  pub seen-by : (k back there : ℕ) (y : Way) → there ≡ present w → y ≡ reach base (w .shape .height) (w .shape .distance) there (k + 1) q
       → back ≡ step base (k + 1) .back → sees y (getD (w .growth) (y .slot) 0) (at w (y .node)) back ≡ seen base w g k
   unfolding seen
-  seen-by k back y f b = rw (b, f, e)
+  seen-by k back there y z f b = rw (b, f, z, e)
 
   module _ (b : Bool) (d : b ≡ boundary (w .shape .distance) (q .column)) (ss : List Seen) (s : ss ≡ byPlace 6 (seen base w g)) where
     pub step-by : stepped (numberOf (w .shape .height) (w .shape .distance) q) (not b) (at w g) ss ≡ stepAt base w g

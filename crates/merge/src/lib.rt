@@ -31,6 +31,7 @@ pub fn merge(w: Window) -> Window
 {
     let shape = w.shape;
     let n = shape::nodes(shape);
+    let there = window::present(shape, w.next);
     // what all nodes read: the state at the step's start
     let old = w.nodes;
     let stirred = stir::stirred_nodes(shape, n, old, &w.growth);
@@ -47,7 +48,7 @@ pub fn merge(w: Window) -> Window
         let mut seen = [edge::nothing(); 6];
         let mut k: u8 = 0;
         'look: while k < 6 {
-            let way = walk::reach(shape, k + 1, place, g);
+            let way = walk::reach(shape, there, k + 1, place, g);
             let j = way.node;
             let other = old[j];
             let slot = way.slot;

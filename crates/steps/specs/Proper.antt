@@ -6,12 +6,12 @@ use mathlib.Core.Path.{_≡_, refl, sym, _∙_, ap, subst}
 use mathlib.Core.Bool.{Bool, true, false, _&&_, _||_, not, Bool·beq}
 use mathlib.Core.List.{List, [], _∷_}
 use mathlib.Core.Logic.{⊎-elim}
-use borrow.Author.Tests.{ltb-true, leb-true, eqb-true, not-true, eq-eqb}
+use borrow.Author.Tests.{ltb-true, leb-true, eqb-true, not-true, eq-eqb, ne-eqb}
 use lib.Dec.{ltb, leb, eqb}
 use lib.ListN.{length, getD}
 use Rattle.shape.specs.Choice.{order}
 use Rattle.shape.specs.Ranges.{halves}
-use Rattle.steps.specs.Steps.{Table, base, step, here, stays}
+use Rattle.steps.specs.Steps.{Table, base, step, here, stays, falls}
 use Rattle.steps.specs.declared.Shift.{Shift}
 use Rattle.steps.specs.declared.Step.{Step}
 
@@ -188,3 +188,15 @@ no-pointer (suc (suc (suc (suc zero)))) n1 n2 n3 n4 n5 n6 = absurd (n4 refl)
 no-pointer (suc (suc (suc (suc (suc zero))))) n1 n2 n3 n4 n5 n6 = absurd (n5 refl)
 no-pointer (suc (suc (suc (suc (suc (suc zero)))))) n1 n2 n3 n4 n5 n6 = absurd (n6 refl)
 no-pointer (suc (suc (suc (suc (suc (suc (suc p))))))) n1 n2 n3 n4 n5 n6 = refl
+
+-- of the pointers only D goes to the sheet below
+pub falls-down : (p : ℕ) → falls base p ≡ eqb p 5
+unfolding base
+falls-down zero = refl
+falls-down (suc zero) = refl
+falls-down (suc (suc zero)) = refl
+falls-down (suc (suc (suc zero))) = refl
+falls-down (suc (suc (suc (suc zero)))) = refl
+falls-down (suc (suc (suc (suc (suc zero))))) = refl
+falls-down (suc (suc (suc (suc (suc (suc zero)))))) = refl
+falls-down (suc (suc (suc (suc (suc (suc (suc p))))))) = sym (ne-eqb (suc (suc (suc (suc (suc (suc (suc p))))))) 5 (λ e. omega arith))

@@ -1,25 +1,24 @@
 -- Laws of the walk through a window. Assumes nothing.
-use Prim.Native.Nat.{ℕ, zero, suc, _+_, _*_, _/_, _%_, _≤_, _<_}
+use Prim.Native.Nat.{ℕ, _+_, _*_, _/_, _%_, _≤_, _<_}
 use native.Mathlib.Nat.{add-mul, one-mul, mod-lt, div-eq-of-lt, mod-eq-of-lt, not-suc-le-zero}
 use native.Mathlib.Omega.{arith}
 use mathlib.Core.Path.{_≡_, refl, sym, _∙_, ap, subst}
 use mathlib.Core.Bool.{Bool, true, false, not}
 use mathlib.Core.Logic.{⊎-elim}
-use borrow.Author.Tests.{lt-ltb, le-ltb, ne-eqb}
-use lib.Dec.{eqb}
+use borrow.Author.Tests.{lt-ltb, le-ltb}
 use Rattle.shape.specs.Choice.{order, if-false}
 use Rattle.shape.specs.Sizes.{sheetsOf, boundary, inRange, nodesIn, nodesOf}
 use Rattle.shape.specs.Ranges.{Ranged, ranged, nodes-of, sheets-le}
 use Rattle.shape.specs.Counting.{Inside}
 use Rattle.shape.specs.Nodes.{indexOf, placeAt, numberOf}
-use Rattle.steps.specs.Steps.{Table, base, near, slot, falls}
+use Rattle.steps.specs.Steps.{Table, base, near, slot}
 use Rattle.steps.specs.Proper.{proper-base}
 use Rattle.steps.specs.LawsStep.{near-inside, slot-max}
 use Rattle.shape.specs.declared.Found.{Found}
 use Rattle.shape.specs.declared.Found.the-variants.{At, Nowhere}
 use Rattle.window.specs.Window.{naming, namer, nowhere, reach}
 use Rattle.window.specs.declared.Way.{Way}
-use Rattle.shape.specs.LawsIndex.{index-place, place-index, index-inside, index-lt, window-le, numbers-le}
+use Rattle.shape.specs.LawsIndex.{index-place, place-index, index-inside, index-lt, nodes-le, window-le, numbers-le}
 use Rattle.shape.specs.LawsNumber.{number-lt}
 use Rattle.shape.specs.declared.Place.{Place}
 use Rattle.walk.specs.Walk.{placeAfter, Stands}
@@ -183,33 +182,21 @@ stands-at h d q n g e l f =
 pub walks-on : (h d : ℕ) (q t : Place) (g : ℕ) → (1 ≤ h → q ≡ placeAt h d g) → t ≡ placeAfter h d q → 1 ≤ h → t ≡ placeAt h d (g + 1)
 walks-on h d q t g f e h1 = walks h d q t g h1 (f h1) e
 
--- a way leads to a node and over a slot of the window
-module _ (h d p : ℕ) (q : Place) (r : Ranged h d) where
-  leads : (f : Found) → near base h d (sheetsOf d) p q ≡ f → (reach base h d (sheetsOf d) p q .node < 3600) × (reach base h d (sheetsOf d) p q .slot < 10800)
+-- a way leads to a node and over a slot of the window, whose sheets need not all be there
+module _ (h d k p : ℕ) (q : Place) (r : Ranged h d) (l : k ≤ sheetsOf d) where
+  leads : (f : Found) → near base h d k p q ≡ f → (reach base h d k p q .node < 3600) × (reach base h d k p q .slot < 10800)
   unfolding base
   leads (At q') e =
-      let i = near-inside base proper-base h d (sheetsOf d) p q q' e in
-      let a : sheetsOf d ≤ sheetsOf d = omega arith in
-      rw (← way-there base h d (sheetsOf d) p q q' e) (omega (arith, index-lt h d (sheetsOf d) q' i, window-le h d r), omega (arith, slot-max base proper-base h d (sheetsOf d) p q q' e r a))
-  leads Nowhere e = rw (← none-there base h d (sheetsOf d) p q e) (omega arith, omega arith)
+      let i = near-inside base proper-base h d k p q q' e in
+      let n = nodes-le h d k 15 (r .h15) (r .d15) (omega (arith, sheets-le d (r .d15))) in
+      rw (← way-there base h d k p q q' e) (omega (arith, index-lt h d k q' i), omega (arith, slot-max base proper-base h d k p q q' e r l))
+  leads Nowhere e = rw (← none-there base h d k p q e) (omega arith, omega arith)
 
-  pub way-low : (reach base h d (sheetsOf d) p q .node < 3600) × (reach base h d (sheetsOf d) p q .slot < 10800)
-  way-low = leads (near base h d (sheetsOf d) p q) refl
+  pub way-low : (reach base h d k p q .node < 3600) × (reach base h d k p q .slot < 10800)
+  way-low = leads (near base h d k p q) refl
 
-pub ends-low : (h d p : ℕ) (q : Place) (way : Way) → Ranged h d → way ≡ reach base h d (sheetsOf d) p q → (way .node < 3600) × (way .slot < 10800)
-ends-low h d p q way r e = rw e (way-low h d p q r)
-
--- of the pointers only D goes to the sheet below
-pub falls-down : (p : ℕ) → falls base p ≡ eqb p 5
-unfolding base
-falls-down zero = refl
-falls-down (suc zero) = refl
-falls-down (suc (suc zero)) = refl
-falls-down (suc (suc (suc zero))) = refl
-falls-down (suc (suc (suc (suc zero)))) = refl
-falls-down (suc (suc (suc (suc (suc zero))))) = refl
-falls-down (suc (suc (suc (suc (suc (suc zero)))))) = refl
-falls-down (suc (suc (suc (suc (suc (suc (suc p))))))) = sym (ne-eqb (suc (suc (suc (suc (suc (suc (suc p))))))) 5 (λ e. omega arith))
+pub ends-low : (h d k p : ℕ) (q : Place) (way : Way) → Ranged h d → k ≤ sheetsOf d → way ≡ reach base h d k p q → (way .node < 3600) × (way .slot < 10800)
+ends-low h d k p q way r l e = rw e (way-low h d k p q r l)
 
 -- the directions in which a node names its edges: E, S, U
 pub named-east : namer base 0 ≡ 3

@@ -1,4 +1,4 @@
--- The six ways from a node, by where its place stands: which are there, and where they lead. Assumes nothing.
+-- The six ways from a node between any number of sheets, by where its place stands: which are there, and where they lead. Assumes nothing.
 use Prim.Native.Nat.{ℕ, _+_, _-_, _*_, _≤_, _<_}
 use native.Mathlib.Nat.{add-mul, one-mul}
 use native.Mathlib.Omega.{arith}
@@ -10,10 +10,12 @@ use lib.Dec.{ltb, leb, eqb}
 use Rattle.shape.specs.Choice.{tell, order}
 use Rattle.shape.specs.Sizes.{sheetsOf, boundary}
 use Rattle.shape.specs.Nodes.{indexOf}
-use Rattle.steps.specs.Steps.{base, step, goes, fits, stays, alongRow, across, insideOf, bothDetectors, joined, slot, north, west, east, south, down, up}
+use Rattle.shape.specs.Counting.{Inside}
+use Rattle.shape.specs.Ranges.{sheets-le}
+use Rattle.steps.specs.Steps.{Table, base, step, goes, fits, stays, alongRow, across, insideOf, bothDetectors, joined, slot, north, west, east, south, down, up}
 use Rattle.steps.specs.Proper.{no-pointer}
 use Rattle.steps.specs.Joins.{Joins, joined-by, near-at, near-none}
-use Rattle.shape.specs.LawsIndex.{index-lt, window-le}
+use Rattle.shape.specs.LawsIndex.{index-lt, nodes-le}
 use Rattle.shape.specs.declared.Place.{Place}
 use Rattle.steps.specs.declared.Step.{Step}
 use Rattle.window.specs.LawsLists.{and-no, and-not}
@@ -50,6 +52,11 @@ unfolding six
 fails-6 a b c e f g p = and-no (a && b && c && e && f) g p
 
 module _ (h d k : ℕ) (st : Step) (q : Place) where
+  -- the place itself is absent
+  absent : k ≤ q .depth → joined h d k st q ≡ false
+  unfolding joined
+  absent l = rw (le-ltb (q .depth) k l)
+
   no-row : fits (st .row) (q .row) h ≡ false → joined h d k st q ≡ false
   unfolding joined six
   no-row e = fails-2 (insideOf h d k q) (fits (st .row) (q .row) h) (fits (st .column) (q .column) (d + 1)) (fits (st .sheet) (q .depth) k) (not (stays st)) (alongRow st || bothDetectors d st q) e
@@ -79,19 +86,23 @@ module _ (h d k : ℕ) (st : Step) (q : Place) where
 
 -- A WAY, by the test of its edge
 
-module _ (h d p : ℕ) (q : Place) where
-  pub no-way : joined h d (sheetsOf d) (step base p) q ≡ false → nowhere ≡ reach base h d (sheetsOf d) p q
-  no-way e = none-there base h d (sheetsOf d) p q (near-none base h d (sheetsOf d) p q e)
+module _ (T : Table) (h d k p : ℕ) (q : Place) where
+  no-way : joined h d k (step T p) q ≡ false → nowhere ≡ reach T h d k p q
+  no-way e = none-there T h d k p q (near-none T h d k p q e)
 
-  a-way : joined h d (sheetsOf d) (step base p) q ≡ true
-      → _≡_ {A = Way} (record { there = true; node = indexOf h d (across (step base p) q); slot = slot base h d p q; detector = not (boundary d (across (step base p) q .column)) })
-      (reach base h d (sheetsOf d) p q)
-  a-way e = way-there base h d (sheetsOf d) p q (across (step base p) q) (near-at base h d (sheetsOf d) p q e)
+  -- none leaves an absent place
+  pub absent-none : k ≤ q .depth → nowhere ≡ reach T h d k p q
+  absent-none l = no-way (absent h d k (step T p) q l)
+
+  a-way : joined h d k (step T p) q ≡ true
+      → _≡_ {A = Way} (record { there = true; node = indexOf h d (across (step T p) q); slot = slot T h d p q; detector = not (boundary d (across (step T p) q .column)) })
+      (reach T h d k p q)
+  a-way e = way-there T h d k p q (across (step T p) q) (near-at T h d k p q e)
 
   -- with the node, the slot and the detector as they are known
-  pub the-way : (node names kind : ℕ) (detector : Bool) → joined h d (sheetsOf d) (step base p) q ≡ true
-      → node ≡ indexOf h d (across (step base p) q) → 3 * names + kind ≡ slot base h d p q → detector ≡ not (boundary d (across (step base p) q .column))
-      → _≡_ {A = Way} (record { there = true; node = node; slot = 3 * names + kind; detector = detector }) (reach base h d (sheetsOf d) p q)
+  the-way : (node names kind : ℕ) (detector : Bool) → joined h d k (step T p) q ≡ true
+      → node ≡ indexOf h d (across (step T p) q) → 3 * names + kind ≡ slot T h d p q → detector ≡ not (boundary d (across (step T p) q .column))
+      → _≡_ {A = Way} (record { there = true; node = node; slot = 3 * names + kind; detector = detector }) (reach T h d k p q)
   the-way node names kind detector e a b c = rw (a, b, c) (a-way e)
 
 -- ROWS AND SHEETS as strides
@@ -121,29 +132,19 @@ inner-test true t e = let z : _≡_ {A = ℕ} 0 1 = cc in absurd (omega arith)
 inner-test false t e = (refl, e)
 
 module _ (h d : ℕ) (q : Place) (g : ℕ) (s : Stands h d q g) where
+  there : (k : ℕ) → q .depth < k → Inside h d k q
+  there k t = record { depth = t; row = s .inside .row; column = s .inside .column }
+
   -- N
-  pub north-none : not (boundary d (q .column)) && ltb 0 (q .row) ≡ false → nowhere ≡ reach base h d (sheetsOf d) 1 q
+  pub north-none : (k : ℕ) → not (boundary d (q .column)) && ltb 0 (q .row) ≡ false → nowhere ≡ reach base h d k 1 q
   unfolding base
-  north-none e =
-      no-way h d 1 q (no-inner h d (sheetsOf d) north q (ltb 0 (q .row)) refl e
-      (λ t. let l : q .row ≡ 0 = omega (arith, ltb-false 0 (q .row) t) in no-row h d (sheetsOf d) north q (rw l)))
+  north-none k e =
+      no-way base h d k 1 q (no-inner h d k north q (ltb 0 (q .row)) refl e
+      (λ t. let l : q .row ≡ 0 = omega (arith, ltb-false 0 (q .row) t) in no-row h d k north q (rw l)))
 
   module _ (e : not (boundary d (q .column)) && ltb 0 (q .row) ≡ true) where
     lower-row : 0 < q .row
     lower-row = ltb-true 0 (q .row) (inner-test (boundary d (q .column)) (ltb 0 (q .row)) e .1)
-
-    north-joins : Joins h d (sheetsOf d) (step base 1) q
-    unfolding base across
-    north-joins =
-        record {
-          from = s .inside;
-          to = record { depth = omega (arith, s .inside .depth); row = omega (arith, s .inside .row); column = omega (arith, s .inside .column) };
-          row = omega (arith, lower-row);
-          column = omega arith;
-          sheet = omega arith;
-          moves = refl;
-          kind = inner-kind d (q .column) (inner-test (boundary d (q .column)) (ltb 0 (q .row)) e .0);
-        }
 
     pub north-index : indexOf h d (across (step base 1) q) + (d + 1) ≡ g
     unfolding base across indexOf
@@ -153,37 +154,38 @@ module _ (h d : ℕ) (q : Place) (g : ℕ) (s : Stands h d q g) where
         let c : q .column + 0 - 0 ≡ q .column = omega arith in
         rw (a, b, c) (omega (arith, row-stride (d + 1) (q .depth * h) (q .row) lower-row, s .index))
 
-    pub north-way : _≡_ {A = Way} (record { there = true; node = g - (d + 1); slot = 3 * (g - (d + 1)) + 1; detector = true }) (reach base h d (sheetsOf d) 1 q)
-    unfolding base slot across
-    north-way =
-        let n : g - (d + 1) ≡ indexOf h d (across (step base 1) q) = omega (arith, north-index) in
-        the-way h d 1 q (g - (d + 1)) (g - (d + 1)) 1 true (joined-by h d (sheetsOf d) (step base 1) q north-joins) n
-        (ap (λ (m : ℕ). 3 * m + 1) n)
-        (still-inner d (q .column) (inner-test (boundary d (q .column)) (ltb 0 (q .row)) e .0))
+    module _ (k : ℕ) (t : q .depth < k) where
+      north-joins : Joins h d k (step base 1) q
+      unfolding base across
+      north-joins =
+          record {
+            from = there k t;
+            to = record { depth = omega arith; row = omega (arith, s .inside .row); column = omega (arith, s .inside .column) };
+            row = omega (arith, lower-row);
+            column = omega arith;
+            sheet = omega arith;
+            moves = refl;
+            kind = inner-kind d (q .column) (inner-test (boundary d (q .column)) (ltb 0 (q .row)) e .0);
+          }
+
+      pub north-way : _≡_ {A = Way} (record { there = true; node = g - (d + 1); slot = 3 * (g - (d + 1)) + 1; detector = true }) (reach base h d k 1 q)
+      unfolding base slot across
+      north-way =
+          let n : g - (d + 1) ≡ indexOf h d (across (step base 1) q) = omega (arith, north-index) in
+          the-way base h d k 1 q (g - (d + 1)) (g - (d + 1)) 1 true (joined-by h d k (step base 1) q north-joins) n
+          (ap (λ (m : ℕ). 3 * m + 1) n)
+          (still-inner d (q .column) (inner-test (boundary d (q .column)) (ltb 0 (q .row)) e .0))
 
   -- S
-  pub south-none : not (boundary d (q .column)) && ltb (q .row + 1) h ≡ false → nowhere ≡ reach base h d (sheetsOf d) 4 q
+  pub south-none : (k : ℕ) → not (boundary d (q .column)) && ltb (q .row + 1) h ≡ false → nowhere ≡ reach base h d k 4 q
   unfolding base
-  south-none e =
-      no-way h d 4 q (no-inner h d (sheetsOf d) south q (ltb (q .row + 1) h) refl e
-      (λ t. no-row h d (sheetsOf d) south q (and-no (leb 0 (q .row + 1)) (ltb (q .row + 1 - 0) h) (le-ltb (q .row + 1 - 0) h (omega (arith, ltb-false (q .row + 1) h t))))))
+  south-none k e =
+      no-way base h d k 4 q (no-inner h d k south q (ltb (q .row + 1) h) refl e
+      (λ t. no-row h d k south q (and-no (leb 0 (q .row + 1)) (ltb (q .row + 1 - 0) h) (le-ltb (q .row + 1 - 0) h (omega (arith, ltb-false (q .row + 1) h t))))))
 
   module _ (e : not (boundary d (q .column)) && ltb (q .row + 1) h ≡ true) where
     upper-row : q .row + 1 < h
     upper-row = ltb-true (q .row + 1) h (inner-test (boundary d (q .column)) (ltb (q .row + 1) h) e .1)
-
-    south-joins : Joins h d (sheetsOf d) (step base 4) q
-    unfolding base across
-    south-joins =
-        record {
-          from = s .inside;
-          to = record { depth = omega (arith, s .inside .depth); row = omega (arith, upper-row); column = omega (arith, s .inside .column) };
-          row = omega arith;
-          column = omega arith;
-          sheet = omega arith;
-          moves = refl;
-          kind = inner-kind d (q .column) (inner-test (boundary d (q .column)) (ltb (q .row + 1) h) e .0);
-        }
 
     pub south-index : g + (d + 1) ≡ indexOf h d (across (step base 4) q)
     unfolding base across indexOf
@@ -194,81 +196,84 @@ module _ (h d : ℕ) (q : Place) (g : ℕ) (s : Stands h d q g) where
         let f : q .depth * h + (q .row + 1) ≡ q .depth * h + q .row + 1 = omega arith in
         rw (a, b, c, f, add-mul (q .depth * h + q .row) 1 (d + 1), one-mul) (omega (arith, s .index))
 
-    pub south-way : _≡_ {A = Way} (record { there = true; node = g + (d + 1); slot = 3 * g + 1; detector = true }) (reach base h d (sheetsOf d) 4 q)
-    unfolding base slot across
-    south-way =
-        the-way h d 4 q (g + (d + 1)) g 1 true (joined-by h d (sheetsOf d) (step base 4) q south-joins) south-index
-        (ap (λ (m : ℕ). 3 * m + 1) (s .index))
-        (still-inner d (q .column) (inner-test (boundary d (q .column)) (ltb (q .row + 1) h) e .0))
+    module _ (k : ℕ) (t : q .depth < k) where
+      south-joins : Joins h d k (step base 4) q
+      unfolding base across
+      south-joins =
+          record {
+            from = there k t;
+            to = record { depth = omega arith; row = omega (arith, upper-row); column = omega (arith, s .inside .column) };
+            row = omega arith;
+            column = omega arith;
+            sheet = omega arith;
+            moves = refl;
+            kind = inner-kind d (q .column) (inner-test (boundary d (q .column)) (ltb (q .row + 1) h) e .0);
+          }
+
+      pub south-way : _≡_ {A = Way} (record { there = true; node = g + (d + 1); slot = 3 * g + 1; detector = true }) (reach base h d k 4 q)
+      unfolding base slot across
+      south-way =
+          the-way base h d k 4 q (g + (d + 1)) g 1 true (joined-by h d k (step base 4) q south-joins) south-index
+          (ap (λ (m : ℕ). 3 * m + 1) (s .index))
+          (still-inner d (q .column) (inner-test (boundary d (q .column)) (ltb (q .row + 1) h) e .0))
 
   -- D
-  pub down-none : not (boundary d (q .column)) && ltb (q .depth + 1) (sheetsOf d) ≡ false → nowhere ≡ reach base h d (sheetsOf d) 5 q
+  pub down-none : (k : ℕ) → not (boundary d (q .column)) && ltb (q .depth + 1) k ≡ false → nowhere ≡ reach base h d k 5 q
   unfolding base
-  down-none e =
-      no-way h d 5 q (no-inner h d (sheetsOf d) down q (ltb (q .depth + 1) (sheetsOf d)) refl e
-      (λ t. no-sheet h d (sheetsOf d) down q (and-no (leb 0 (q .depth + 1)) (ltb (q .depth + 1 - 0) (sheetsOf d)) (le-ltb (q .depth + 1 - 0) (sheetsOf d) (omega (arith, ltb-false (q .depth + 1) (sheetsOf d) t))))))
+  down-none k e =
+      no-way base h d k 5 q (no-inner h d k down q (ltb (q .depth + 1) k) refl e
+      (λ t. no-sheet h d k down q (and-no (leb 0 (q .depth + 1)) (ltb (q .depth + 1 - 0) k) (le-ltb (q .depth + 1 - 0) k (omega (arith, ltb-false (q .depth + 1) k t))))))
 
-  module _ (e : not (boundary d (q .column)) && ltb (q .depth + 1) (sheetsOf d) ≡ true) where
-    upper-sheet : q .depth + 1 < sheetsOf d
-    upper-sheet = ltb-true (q .depth + 1) (sheetsOf d) (inner-test (boundary d (q .column)) (ltb (q .depth + 1) (sheetsOf d)) e .1)
+  down-index : g + h * (d + 1) ≡ indexOf h d (across (step base 5) q)
+  unfolding base across indexOf
+  down-index =
+      let a : q .depth + 1 - 0 ≡ q .depth + 1 = omega arith in
+      let b : q .row + 0 - 0 ≡ q .row = omega arith in
+      let c : q .column + 0 - 0 ≡ q .column = omega arith in
+      let z : q .depth + 1 - 1 ≡ q .depth = omega arith in
+      let t : 0 < q .depth + 1 = omega arith in
+      let f = sheet-stride h (d + 1) (q .depth + 1) (q .row) t in
+      rw (a, b, c) (omega (arith, rw z at f, s .index))
 
-    down-joins : Joins h d (sheetsOf d) (step base 5) q
+  module _ (k : ℕ) (e : not (boundary d (q .column)) && ltb (q .depth + 1) k ≡ true) where
+    upper-sheet : q .depth + 1 < k
+    upper-sheet = ltb-true (q .depth + 1) k (inner-test (boundary d (q .column)) (ltb (q .depth + 1) k) e .1)
+
+    down-joins : Joins h d k (step base 5) q
     unfolding base across
     down-joins =
         record {
-          from = s .inside;
+          from = there k (omega (arith, upper-sheet));
           to = record { depth = omega (arith, upper-sheet); row = omega (arith, s .inside .row); column = omega (arith, s .inside .column) };
           row = omega arith;
           column = omega arith;
           sheet = omega arith;
           moves = refl;
-          kind = inner-kind d (q .column) (inner-test (boundary d (q .column)) (ltb (q .depth + 1) (sheetsOf d)) e .0);
+          kind = inner-kind d (q .column) (inner-test (boundary d (q .column)) (ltb (q .depth + 1) k) e .0);
         }
 
-    pub down-index : g + h * (d + 1) ≡ indexOf h d (across (step base 5) q)
-    unfolding base across indexOf
-    down-index =
-        let a : q .depth + 1 - 0 ≡ q .depth + 1 = omega arith in
-        let b : q .row + 0 - 0 ≡ q .row = omega arith in
-        let c : q .column + 0 - 0 ≡ q .column = omega arith in
-        let z : q .depth + 1 - 1 ≡ q .depth = omega arith in
-        let t : 0 < q .depth + 1 = omega arith in
-        let f = sheet-stride h (d + 1) (q .depth + 1) (q .row) t in
-        rw (a, b, c) (omega (arith, rw z at f, s .index))
-
-    pub down-way : _≡_ {A = Way} (record { there = true; node = g + h * (d + 1); slot = 3 * (g + h * (d + 1)) + 2; detector = true }) (reach base h d (sheetsOf d) 5 q)
+    pub down-way : _≡_ {A = Way} (record { there = true; node = g + h * (d + 1); slot = 3 * (g + h * (d + 1)) + 2; detector = true }) (reach base h d k 5 q)
     unfolding base slot across
     down-way =
-        the-way h d 5 q (g + h * (d + 1)) (g + h * (d + 1)) 2 true (joined-by h d (sheetsOf d) (step base 5) q down-joins) down-index
+        the-way base h d k 5 q (g + h * (d + 1)) (g + h * (d + 1)) 2 true (joined-by h d k (step base 5) q down-joins) down-index
         (ap (λ (m : ℕ). 3 * m + 2) down-index)
-        (still-inner d (q .column) (inner-test (boundary d (q .column)) (ltb (q .depth + 1) (sheetsOf d)) e .0))
+        (still-inner d (q .column) (inner-test (boundary d (q .column)) (ltb (q .depth + 1) k) e .0))
 
-    pub down-low : g + h * (d + 1) < 3600
-    down-low = omega (arith, down-index, index-lt h d (sheetsOf d) (across (step base 5) q) (down-joins .to), window-le h d (s .ranged))
+    -- at most into the ghost sheet
+    pub down-low : k ≤ sheetsOf d + 1 → g + h * (d + 1) < 3840
+    down-low l =
+        omega (arith, down-index, index-lt h d k (across (step base 5) q) (down-joins .to), nodes-le h d k 16 (s .ranged .h15) (s .ranged .d15) (omega (arith, sheets-le d (s .ranged .d15))))
 
   -- U
-  pub up-none : not (boundary d (q .column)) && ltb 0 (q .depth) ≡ false → nowhere ≡ reach base h d (sheetsOf d) 6 q
+  pub up-none : (k : ℕ) → not (boundary d (q .column)) && ltb 0 (q .depth) ≡ false → nowhere ≡ reach base h d k 6 q
   unfolding base
-  up-none e =
-      no-way h d 6 q (no-inner h d (sheetsOf d) up q (ltb 0 (q .depth)) refl e
-      (λ t. let l : q .depth ≡ 0 = omega (arith, ltb-false 0 (q .depth) t) in no-sheet h d (sheetsOf d) up q (rw l)))
+  up-none k e =
+      no-way base h d k 6 q (no-inner h d k up q (ltb 0 (q .depth)) refl e
+      (λ t. let l : q .depth ≡ 0 = omega (arith, ltb-false 0 (q .depth) t) in no-sheet h d k up q (rw l)))
 
   module _ (e : not (boundary d (q .column)) && ltb 0 (q .depth) ≡ true) where
     lower-sheet : 0 < q .depth
     lower-sheet = ltb-true 0 (q .depth) (inner-test (boundary d (q .column)) (ltb 0 (q .depth)) e .1)
-
-    up-joins : Joins h d (sheetsOf d) (step base 6) q
-    unfolding base across
-    up-joins =
-        record {
-          from = s .inside;
-          to = record { depth = omega (arith, s .inside .depth); row = omega (arith, s .inside .row); column = omega (arith, s .inside .column) };
-          row = omega arith;
-          column = omega arith;
-          sheet = omega (arith, lower-sheet);
-          moves = refl;
-          kind = inner-kind d (q .column) (inner-test (boundary d (q .column)) (ltb 0 (q .depth)) e .0);
-        }
 
     pub up-index : indexOf h d (across (step base 6) q) + h * (d + 1) ≡ g
     unfolding base across indexOf
@@ -278,32 +283,33 @@ module _ (h d : ℕ) (q : Place) (g : ℕ) (s : Stands h d q g) where
         let c : q .column + 0 - 0 ≡ q .column = omega arith in
         rw (a, b, c) (omega (arith, sheet-stride h (d + 1) (q .depth) (q .row) lower-sheet, s .index))
 
-    pub up-way : _≡_ {A = Way} (record { there = true; node = g - h * (d + 1); slot = 3 * g + 2; detector = true }) (reach base h d (sheetsOf d) 6 q)
-    unfolding base slot across
-    up-way =
-        the-way h d 6 q (g - h * (d + 1)) g 2 true (joined-by h d (sheetsOf d) (step base 6) q up-joins) (omega (arith, up-index))
-        (ap (λ (m : ℕ). 3 * m + 2) (s .index))
-        (still-inner d (q .column) (inner-test (boundary d (q .column)) (ltb 0 (q .depth)) e .0))
+    module _ (k : ℕ) (t : q .depth < k) where
+      up-joins : Joins h d k (step base 6) q
+      unfolding base across
+      up-joins =
+          record {
+            from = there k t;
+            to = record { depth = omega arith; row = omega (arith, s .inside .row); column = omega (arith, s .inside .column) };
+            row = omega arith;
+            column = omega arith;
+            sheet = omega (arith, lower-sheet);
+            moves = refl;
+            kind = inner-kind d (q .column) (inner-test (boundary d (q .column)) (ltb 0 (q .depth)) e .0);
+          }
+
+      pub up-way : _≡_ {A = Way} (record { there = true; node = g - h * (d + 1); slot = 3 * g + 2; detector = true }) (reach base h d k 6 q)
+      unfolding base slot across
+      up-way =
+          the-way base h d k 6 q (g - h * (d + 1)) g 2 true (joined-by h d k (step base 6) q up-joins) (omega (arith, up-index))
+          (ap (λ (m : ℕ). 3 * m + 2) (s .index))
+          (still-inner d (q .column) (inner-test (boundary d (q .column)) (ltb 0 (q .depth)) e .0))
 
   -- W
-  pub west-none : q .column ≡ 0 → nowhere ≡ reach base h d (sheetsOf d) 2 q
+  pub west-none : (k : ℕ) → q .column ≡ 0 → nowhere ≡ reach base h d k 2 q
   unfolding base
-  west-none e = no-way h d 2 q (no-column h d (sheetsOf d) west q (rw e))
+  west-none k e = no-way base h d k 2 q (no-column h d k west q (rw e))
 
   module _ (l : 0 < q .column) where
-    west-joins : Joins h d (sheetsOf d) (step base 2) q
-    unfolding base across
-    west-joins =
-        record {
-          from = s .inside;
-          to = record { depth = omega (arith, s .inside .depth); row = omega (arith, s .inside .row); column = omega (arith, s .inside .column) };
-          row = omega arith;
-          column = omega arith;
-          sheet = omega arith;
-          moves = refl;
-          kind = refl;
-        }
-
     pub west-index : indexOf h d (across (step base 2) q) + 1 ≡ g
     unfolding base across indexOf
     west-index =
@@ -320,33 +326,34 @@ module _ (h d : ℕ) (q : Place) (g : ℕ) (s : Stands h d q g) where
         (λ f. let m : (q .column + 0 - 1 ≡ 0) → ⊥ = λ z. eqb-false (q .column) 1 f (omega arith) in ap not f ∙ sym (rw (ne-eqb (q .column + 0 - 1) 0 m, ne-eqb (q .column + 0 - 1) d n)))
         (tell (eqb (q .column) 1))
 
-    pub west-way : _≡_ {A = Way} (record { there = true; node = g - 1; slot = 3 * (g - 1) + 0; detector = not (eqb (q .column) 1) }) (reach base h d (sheetsOf d) 2 q)
-    unfolding base slot across
-    west-way =
-        let n : g - 1 ≡ indexOf h d (across (step base 2) q) = omega (arith, west-index) in
-        the-way h d 2 q (g - 1) (g - 1) 0 (not (eqb (q .column) 1)) (joined-by h d (sheetsOf d) (step base 2) q west-joins) n
-        (ap (λ (m : ℕ). 3 * m + 0) n)
-        west-side
+    module _ (k : ℕ) (t : q .depth < k) where
+      west-joins : Joins h d k (step base 2) q
+      unfolding base across
+      west-joins =
+          record {
+            from = there k t;
+            to = record { depth = omega arith; row = omega (arith, s .inside .row); column = omega (arith, s .inside .column) };
+            row = omega arith;
+            column = omega arith;
+            sheet = omega arith;
+            moves = refl;
+            kind = refl;
+          }
+
+      pub west-way : _≡_ {A = Way} (record { there = true; node = g - 1; slot = 3 * (g - 1) + 0; detector = not (eqb (q .column) 1) }) (reach base h d k 2 q)
+      unfolding base slot across
+      west-way =
+          let n : g - 1 ≡ indexOf h d (across (step base 2) q) = omega (arith, west-index) in
+          the-way base h d k 2 q (g - 1) (g - 1) 0 (not (eqb (q .column) 1)) (joined-by h d k (step base 2) q west-joins) n
+          (ap (λ (m : ℕ). 3 * m + 0) n)
+          west-side
 
   -- E
-  pub east-none : q .column ≡ d → nowhere ≡ reach base h d (sheetsOf d) 3 q
+  pub east-none : (k : ℕ) → q .column ≡ d → nowhere ≡ reach base h d k 3 q
   unfolding base
-  east-none e = no-way h d 3 q (no-column h d (sheetsOf d) east q (and-no (leb 0 (q .column + 1)) (ltb (q .column + 1 - 0) (d + 1)) (le-ltb (q .column + 1 - 0) (d + 1) (omega arith))))
+  east-none k e = no-way base h d k 3 q (no-column h d k east q (and-no (leb 0 (q .column + 1)) (ltb (q .column + 1 - 0) (d + 1)) (le-ltb (q .column + 1 - 0) (d + 1) (omega arith))))
 
   module _ (l : q .column < d) where
-    east-joins : Joins h d (sheetsOf d) (step base 3) q
-    unfolding base across
-    east-joins =
-        record {
-          from = s .inside;
-          to = record { depth = omega (arith, s .inside .depth); row = omega (arith, s .inside .row); column = omega (arith, s .inside .column) };
-          row = omega arith;
-          column = omega arith;
-          sheet = omega arith;
-          moves = refl;
-          kind = refl;
-        }
-
     pub east-index : g + 1 ≡ indexOf h d (across (step base 3) q)
     unfolding base across indexOf
     east-index =
@@ -360,16 +367,30 @@ module _ (h d : ℕ) (q : Place) (g : ℕ) (s : Stands h d q g) where
         let n : (q .column + 1 ≡ 0) → ⊥ = λ z. omega arith in
         rw (c, ne-eqb (q .column + 1) 0 n)
 
-    pub east-way : _≡_ {A = Way} (record { there = true; node = g + 1; slot = 3 * g + 0; detector = not (eqb (q .column + 1) d) }) (reach base h d (sheetsOf d) 3 q)
-    unfolding base slot across
-    east-way =
-        the-way h d 3 q (g + 1) g 0 (not (eqb (q .column + 1) d)) (joined-by h d (sheetsOf d) (step base 3) q east-joins) east-index
-        (ap (λ (m : ℕ). 3 * m + 0) (s .index))
-        east-side
+    module _ (k : ℕ) (t : q .depth < k) where
+      east-joins : Joins h d k (step base 3) q
+      unfolding base across
+      east-joins =
+          record {
+            from = there k t;
+            to = record { depth = omega arith; row = omega (arith, s .inside .row); column = omega (arith, s .inside .column) };
+            row = omega arith;
+            column = omega arith;
+            sheet = omega arith;
+            moves = refl;
+            kind = refl;
+          }
+
+      pub east-way : _≡_ {A = Way} (record { there = true; node = g + 1; slot = 3 * g + 0; detector = not (eqb (q .column + 1) d) }) (reach base h d k 3 q)
+      unfolding base slot across
+      east-way =
+          the-way base h d k 3 q (g + 1) g 0 (not (eqb (q .column + 1) d)) (joined-by h d k (step base 3) q east-joins) east-index
+          (ap (λ (m : ℕ). 3 * m + 0) (s .index))
+          east-side
 
   -- what is none of the six pointers leads nowhere
-  pub other-none : (p : ℕ) → stays (step base p) ≡ true → nowhere ≡ reach base h d (sheetsOf d) p q
-  other-none p e = no-way h d p q (no-move h d (sheetsOf d) (step base p) q e)
+  pub other-none : (k p : ℕ) → stays (step base p) ≡ true → nowhere ≡ reach base h d k p q
+  other-none k p e = no-way base h d k p q (no-move h d k (step base p) q e)
 
 -- a test that was made of a part's answer
 pub no-test : (b i t : Bool) → i ≡ b → not (i && t) ≡ true → b && t ≡ false
@@ -383,13 +404,6 @@ pos n f = ⊎-elim (λ l. l) (λ l. absurd (f (omega arith))) (order 0 n)
 
 pub less : (n m : ℕ) → n ≤ m → (n ≡ m → ⊥) → n < m
 less n m l f = ⊎-elim (λ k. k) (λ k. absurd (f (omega arith))) (order n m)
-
--- the same where the bound is a part's answer too
-pub no-test-to : (b i : Bool) (n m k : ℕ) → i ≡ b → m ≡ k → not (i && ltb n m) ≡ true → b && ltb n k ≡ false
-no-test-to b i n m k e z f = no-test b i (ltb n k) e (subst (λ (x : ℕ). not (i && ltb n x) ≡ true) z f)
-
-pub a-test-to : (b i : Bool) (n m k : ℕ) → i ≡ b → m ≡ k → not (i && ltb n m) ≡ false → b && ltb n k ≡ true
-a-test-to b i n m k e z f = a-test b i (ltb n k) e (subst (λ (x : ℕ). not (i && ltb n x) ≡ false) z f)
 
 -- a pointer that is none of the six
 pub stays-put : (p : ℕ) → (p ≡ 1 → ⊥) → (p ≡ 2 → ⊥) → (p ≡ 3 → ⊥) → (p ≡ 4 → ⊥) → (p ≡ 5 → ⊥) → (p ≡ 6 → ⊥) → stays (step base p) ≡ true

@@ -4,7 +4,7 @@ use shape::Shape;
 use window::Way;
 ghost use mathlib.Core.Path.{_≡_};
 ghost use mathlib.Core.Bool.{true, not};
-ghost use Prim.Native.Nat.{_+_, _*_, _<_};
+ghost use Prim.Native.Nat.{ℕ, _+_, _*_, _≤_, _<_};
 ghost use Rattle.shape.specs.Sizes.{boundary, sheetsOf};
 ghost use Rattle.shape.specs.Nodes.{numberOf};
 ghost use Rattle.steps.specs.Steps.{base};
@@ -58,7 +58,7 @@ fn no_edge() -> Way
 
 // Over the edge of a kind that one end names.
 fn over(node: usize, names: usize, kind: usize, detector: bool) -> Way
-    requires { ⌜ (names < 3600) × (kind < 3) ⌝ }
+    requires { ⌜ (names < 3840) × (kind < 3) ⌝ }
     ensures { λ r. ⌜ r ≡ record { there = true; node = node; slot = 3 * names + kind; detector = detector } ⌝ }
 {
     Way {
@@ -77,7 +77,7 @@ fn inner(shape: Shape, place: Place) -> bool
 
 fn north(shape: Shape, place: Place, g: usize) -> Way
     requires { ⌜ Stands (shape .height) (shape .distance) place g ⌝ }
-    ensures { λ r. ⌜ r ≡ reachOf base (shape .height) (shape .distance) (sheetsOf (shape .distance)) 1 place ⌝ }
+    ensures { λ r. ⌜ ((k : ℕ) → place .depth < k → r ≡ reachOf base (shape .height) (shape .distance) k 1 place) ⌝ }
 {
     if !(inner(shape, place) & (0 < place.row)) {
         return no_edge();
@@ -88,7 +88,7 @@ fn north(shape: Shape, place: Place, g: usize) -> Way
 
 fn west(shape: Shape, place: Place, g: usize) -> Way
     requires { ⌜ Stands (shape .height) (shape .distance) place g ⌝ }
-    ensures { λ r. ⌜ r ≡ reachOf base (shape .height) (shape .distance) (sheetsOf (shape .distance)) 2 place ⌝ }
+    ensures { λ r. ⌜ ((k : ℕ) → place .depth < k → r ≡ reachOf base (shape .height) (shape .distance) k 2 place) ⌝ }
 {
     if place.column == 0 {
         return no_edge();
@@ -99,7 +99,7 @@ fn west(shape: Shape, place: Place, g: usize) -> Way
 
 fn east(shape: Shape, place: Place, g: usize) -> Way
     requires { ⌜ Stands (shape .height) (shape .distance) place g ⌝ }
-    ensures { λ r. ⌜ r ≡ reachOf base (shape .height) (shape .distance) (sheetsOf (shape .distance)) 3 place ⌝ }
+    ensures { λ r. ⌜ ((k : ℕ) → place .depth < k → r ≡ reachOf base (shape .height) (shape .distance) k 3 place) ⌝ }
 {
     if place.column == shape.distance {
         return no_edge();
@@ -109,7 +109,7 @@ fn east(shape: Shape, place: Place, g: usize) -> Way
 
 fn south(shape: Shape, place: Place, g: usize) -> Way
     requires { ⌜ Stands (shape .height) (shape .distance) place g ⌝ }
-    ensures { λ r. ⌜ r ≡ reachOf base (shape .height) (shape .distance) (sheetsOf (shape .distance)) 4 place ⌝ }
+    ensures { λ r. ⌜ ((k : ℕ) → place .depth < k → r ≡ reachOf base (shape .height) (shape .distance) k 4 place) ⌝ }
 {
     if !(inner(shape, place) & (place.row + 1 < shape.height)) {
         return no_edge();
@@ -117,11 +117,12 @@ fn south(shape: Shape, place: Place, g: usize) -> Way
     over(g + (shape.distance as usize + 1), g, 1, true)
 }
 
-fn down(shape: Shape, place: Place, g: usize) -> Way
+fn down(shape: Shape, sheets: usize, place: Place, g: usize) -> Way
     requires { ⌜ Stands (shape .height) (shape .distance) place g ⌝ }
-    ensures { λ r. ⌜ r ≡ reachOf base (shape .height) (shape .distance) (sheetsOf (shape .distance)) 5 place ⌝ }
+    requires { ⌜ sheets ≤ sheetsOf (shape .distance) + 1 ⌝ }
+    ensures { λ r. ⌜ r ≡ reachOf base (shape .height) (shape .distance) sheets 5 place ⌝ }
 {
-    if !(inner(shape, place) & (place.depth as usize + 1 < shape::sheets(shape))) {
+    if !(inner(shape, place) & (place.depth as usize + 1 < sheets)) {
         return no_edge();
     }
     let to = g + shape.height as usize * (shape.distance as usize + 1);
@@ -130,7 +131,7 @@ fn down(shape: Shape, place: Place, g: usize) -> Way
 
 fn up(shape: Shape, place: Place, g: usize) -> Way
     requires { ⌜ Stands (shape .height) (shape .distance) place g ⌝ }
-    ensures { λ r. ⌜ r ≡ reachOf base (shape .height) (shape .distance) (sheetsOf (shape .distance)) 6 place ⌝ }
+    ensures { λ r. ⌜ ((k : ℕ) → place .depth < k → r ≡ reachOf base (shape .height) (shape .distance) k 6 place) ⌝ }
 {
     if !(inner(shape, place) & (0 < place.depth)) {
         return no_edge();
@@ -143,17 +144,21 @@ fn up(shape: Shape, place: Place, g: usize) -> Way
     )
 }
 
-// What the step of a pointer leads to, from the node at a place.
-pub fn reach(shape: Shape, pointer: u8, place: Place, g: usize) -> Way
+// What the step of a pointer leads to, from the node at a place, if so many sheets are there.
+pub fn reach(shape: Shape, sheets: usize, pointer: u8, place: Place, g: usize) -> Way
     requires { ⌜ Stands (shape .height) (shape .distance) place g ⌝ }
-    ensures { λ r. ⌜ r ≡ reachOf base (shape .height) (shape .distance) (sheetsOf (shape .distance)) pointer place ⌝ }
+    requires { ⌜ sheets ≤ sheetsOf (shape .distance) + 1 ⌝ }
+    ensures { λ r. ⌜ r ≡ reachOf base (shape .height) (shape .distance) sheets pointer place ⌝ }
 {
+    if sheets <= place.depth as usize {
+        return no_edge();
+    }
     match pointer {
         1 => north(shape, place, g),
         2 => west(shape, place, g),
         3 => east(shape, place, g),
         4 => south(shape, place, g),
-        5 => down(shape, place, g),
+        5 => down(shape, sheets, place, g),
         6 => up(shape, place, g),
         _ => no_edge(),
     }

@@ -3,11 +3,13 @@ use Prim.Native.Nat.{ℕ, _+_, _*_}
 use mathlib.Core.Bool.{Bool, _&&_, _||_, not, false}
 use lib.Dec.{ltb, leb, eqb}
 use lib.ListN.{getD, drop}
+use Rattle.shape.specs.Choice.{if}
+use Rattle.shape.specs.Nodes.{numberOf}
 use Rattle.shape.specs.Sizes.{sheetsOf, boundary, inRange, nodesIn, detectorsOf}
-use Rattle.steps.specs.Steps.{Table, falls}
+use Rattle.steps.specs.Steps.{Table}
 use Rattle.shape.specs.declared.Place.{Place}
 use Rattle.window.specs.Lists.{every, all}
-use Rattle.window.specs.Window.{isToGrow, isMerging, namer, reach, size, present, at, place, to}
+use Rattle.window.specs.Window.{isMerging, namer, reach, size, present, pointed, at, place, to}
 use Rattle.window.specs.declared.Mark.{Mark}
 use Rattle.window.specs.declared.Mark.the-variants.{Reset, Root}
 use Rattle.window.specs.declared.Stage.{Stage}
@@ -19,30 +21,32 @@ abbrev pub markFits : Stage → ℕ → Mark → Bool
 markFits stage numbers Reset = isMerging stage
 markFits stage numbers (Root m) = ltb m numbers
 
-abbrev pub isZero : Mark → Bool
-isZero Reset = false
-isZero (Root m) = eqb m 0
+abbrev pub isNumber : ℕ → Mark → Bool
+isNumber own Reset = false
+isNumber own (Root m) = eqb m own
+
+-- the fresh state of a node, its own number given
+abbrev pub isFresh : ℕ → Node → Bool
+isFresh own n = not (n .active) && not (n .defect) && not (n .unrooted) && eqb (n .pointer) 0 && isNumber own (n .mark)
 
 -- unused entries zero: mark the number 0, pointer C
 abbrev pub unusedNode : Node → Bool
-unusedNode n = not (n .active) && not (n .defect) && not (n .unrooted) && eqb (n .pointer) 0 && isZero (n .mark)
+unusedNode n = isFresh 0 n
 
--- pointers along edges of the window, k sheets being present, except that a bottom detector's may be D in stage to grow
-unfoldable pub pointerFits : Table → Stage → ℕ → ℕ → ℕ → Place → ℕ → Bool
-pointerFits T stage h d k q p =
-    eqb p 0
-    || reach T h d k p q .there
-    || isToGrow stage && eqb (q .depth + 1) (sheetsOf d) && not (boundary d (q .column)) && falls T p
+-- pointers along edges between the first k sheets; in stage to grow the sheet that has left is one of them, so that a bottom detector's may be D
+unfoldable pub pointerFits : Table → ℕ → ℕ → ℕ → Place → ℕ → Bool
+pointerFits T h d k q p = eqb p 0 || reach T h d k p q .there
 
 -- no defect on a boundary
 abbrev pub defectFits : ℕ → Place → Bool → Bool
 defectFits d q defect = not (boundary d (q .column) && defect)
 
-unfoldable pub nodeFits : Table → Stage → ℕ → ℕ → ℕ → Place → Node → Bool
-nodeFits T stage h d k q n =
-    markFits stage (nodesIn h d (sheetsOf d + 1)) (n .mark)
-    && pointerFits T stage h d k q (n .pointer)
-    && defectFits d q (n .defect)
+-- so many sheets are there, and to so many pointers may lead; an absent node keeps its fresh state
+unfoldable pub nodeFits : Table → Stage → ℕ → ℕ → ℕ → ℕ → Place → Node → Bool
+nodeFits T stage h d there led q n =
+    if (ltb (q .depth) there)
+    (markFits stage (nodesIn h d (sheetsOf d + 1)) (n .mark) && pointerFits T h d led q (n .pointer) && defectFits d q (n .defect))
+    (isFresh (numberOf h d q) n)
 
 abbrev pub isEmpty : ℕ → Bool
 isEmpty halves = eqb halves 0
@@ -53,7 +57,7 @@ slotFits there halves correction = leb halves 2 && (there || isEmpty halves && n
 
 module _ (T : Table) (w : Window) where
   abbrev pub nodeFitsAt : ℕ → Bool
-  nodeFitsAt g = nodeFits T (w .stage) (w .shape .height) (w .shape .distance) (present w) (place w g) (at w g)
+  nodeFitsAt g = nodeFits T (w .stage) (w .shape .height) (w .shape .distance) (present w) (pointed w) (place w g) (at w g)
 
   -- node g's own edge of a kind
   unfoldable pub slotFitsAt : ℕ → ℕ → Bool

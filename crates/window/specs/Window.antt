@@ -1,9 +1,10 @@
 -- What stands in a window: by node, and over a step. Everything is over a table of steps T. Assumes nothing.
-use Prim.Native.Nat.{ℕ, suc, _+_, _*_}
+use Prim.Native.Nat.{ℕ, suc, _+_, _-_, _*_, min}
 use mathlib.Core.Bool.{Bool, true, false, _&&_, not}
 use mathlib.Core.List.{List, [], _∷_}
 use lib.Dec.{eqb}
 use lib.ListN.{getD}
+use Rattle.shape.specs.Choice.{if}
 use Rattle.shape.specs.Sizes.{sheetsOf, boundary, nodesOf}
 use Rattle.shape.specs.Nodes.{indexOf, placeAt}
 use Rattle.steps.specs.Steps.{Table, near, slot}
@@ -64,6 +65,14 @@ naming (st ∷ sts) kind p = elim (st .own && eqb (st .kind) kind) [ true ↦ p 
 abbrev pub namer : Table → ℕ → ℕ
 namer T kind = naming (T .steps) kind 1
 
+-- Depth j holds round next - 1 - j, and rounds 0 to s - 1 are absent: of the first k sheets, those of supplied rounds. Presence is asked here alone
+abbrev pub supplied : ℕ → ℕ → ℕ → ℕ
+supplied d next k = min k (next - sheetsOf d)
+
+-- the sheets that a pointer may lead to: those of the window, and in stage to grow the one that has just left
+abbrev pub ledTo : ℕ → Stage → ℕ
+ledTo d stage = if (isToGrow stage) (sheetsOf d + 1) (sheetsOf d)
+
 -- BY NODE, in the internal order
 
 module _ (w : Window) where
@@ -74,9 +83,13 @@ module _ (w : Window) where
   abbrev pub sheet : ℕ
   sheet = w .shape .height * (w .shape .distance + 1)
 
-  -- the sheets that are there: presence is asked here alone
+  -- the sheets of the window that are there
   abbrev pub present : ℕ
-  present = sheetsOf (w .shape .distance)
+  present = supplied (w .shape .distance) (w .next) (sheetsOf (w .shape .distance))
+
+  -- of the sheets that a pointer may lead to, those of supplied rounds
+  abbrev pub pointed : ℕ
+  pointed = supplied (w .shape .distance) (w .next) (ledTo (w .shape .distance) (w .stage))
 
   abbrev pub at : ℕ → Node
   at g = getD (w .nodes) g beyond

@@ -2,8 +2,9 @@
 use refusal::Refusal;
 use shape::Shape;
 ghost use mathlib.Core.Path.{_≡_};
+ghost use Rattle.shape.specs.Sizes.{sheetsOf};
 ghost use Rattle.window.specs.Lists.{bit as bitOf};
-ghost use Rattle.window.specs.Window.{alone as aloneOf, isRest, isToGrow, isMerging};
+ghost use Rattle.window.specs.Window.{alone as aloneOf, isRest, isToGrow, isMerging, supplied as suppliedOf, ledTo};
 
 // A node's cluster mark: reset, or the number of a root.
 pub enum Mark {
@@ -129,6 +130,46 @@ pub fn is_merging(stage: Stage) -> bool
         Stage::ToGrow => false,
         Stage::Merging => true,
     }
+}
+
+// Of the first k sheets, those of supplied rounds.
+fn supplied(shape: Shape, next: u32, k: usize) -> usize
+    ensures { λ r. ⌜ r ≡ suppliedOf (shape .distance) next k ⌝ }
+{
+    let sheets = shape::sheets(shape);
+    let rounds = next as usize;
+    if rounds < sheets {
+        return 0;
+    }
+    if rounds - sheets < k {
+        return rounds - sheets;
+    }
+    k
+}
+
+// How many of a window's sheets are there.
+pub fn present(shape: Shape, next: u32) -> usize
+    ensures { λ r. ⌜ r ≡ suppliedOf (shape .distance) next (sheetsOf (shape .distance)) ⌝ }
+{
+    supplied(shape, next, shape::sheets(shape))
+}
+
+// The sheets that a pointer may lead to: those of the window, and in stage to grow the one that has just left.
+fn led_to(shape: Shape, stage: Stage) -> usize
+    ensures { λ r. ⌜ r ≡ ledTo (shape .distance) stage ⌝ }
+{
+    let sheets = shape::sheets(shape);
+    if is_to_grow(stage) {
+        return sheets + 1;
+    }
+    sheets
+}
+
+// How many of those are of supplied rounds.
+pub fn pointed(shape: Shape, stage: Stage, next: u32) -> usize
+    ensures { λ r. ⌜ r ≡ suppliedOf (shape .distance) next (ledTo (shape .distance) stage) ⌝ }
+{
+    supplied(shape, next, led_to(shape, stage))
 }
 
 // A bit as a number.

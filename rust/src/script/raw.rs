@@ -2,7 +2,7 @@
 
 use super::{entry_line, Script, ROUNDS};
 use crate::decoder::Stage;
-use crate::image::{Entry, DETECTORS};
+use crate::image::{self, Entry, DETECTORS};
 use crate::random::Random;
 use crate::replay::Player;
 use crate::streams::Shape;
@@ -90,14 +90,33 @@ impl Script {
         format!("round {edges} {escapes} {digits}")
     }
 
-    /// A detector's defect changed, mostly in the bottom sheet, which the next round hands out.
-    fn random_defect(&mut self, random: &mut Random) {
+    /// A detector's entry at a depth, with its defect changed; and as it is.
+    fn defect_changed(&self, depth: usize, random: &mut Random) -> [String; 2] {
         let shape = self.shape();
-        let (bottom, any) = (shape.sheets() - 1, random.below(shape.sheets()));
-        let row = random.pick(&[bottom, bottom, any]) * shape.height + random.below(shape.height);
+        let row = depth * shape.height + random.below(shape.height);
         let i = row * (shape.distance + 1) + 1 + random.below(shape.distance - 1);
         let old = self.image().nodes[i];
-        self.add(entry_line(i, Entry { defect: !old.defect, ..old }));
+        [!old.defect, old.defect].map(|defect| entry_line(i, Entry { defect, ..old }))
+    }
+
+    /// A defect, an edge's growth or its correction bit at the depth of an absent round; and back.
+    fn absent_changed(&self, depth: usize, random: &mut Random) -> [String; 2] {
+        let sheet = &self.outline().sheet;
+        let slot = image::slot(sheet, depth, random.below(sheet.spans.len()));
+        match random.below(3) {
+            0 => self.defect_changed(depth, random),
+            1 => [1, 0].map(|halves| format!("halves {slot} {halves}")),
+            _ => [1, 0].map(|bit| format!("flip {slot} {bit}")),
+        }
+    }
+
+    /// A defect changed, mostly in the lowest sheet that is there: if it is the bottom, the next round hands it out.
+    fn random_defect(&mut self, random: &mut Random) {
+        let Some(lowest) = self.outline().present().checked_sub(1) else { return };
+        let any = random.below(lowest + 1);
+        let depth = random.pick(&[lowest, lowest, any]);
+        let [changed, _] = self.defect_changed(depth, random);
+        self.add(changed);
     }
 
     /// A round and another call on a window that is not well-formed or has the last round number.
@@ -107,11 +126,18 @@ impl Script {
         let most = (DETECTORS - shape.detectors()).max(1);
         let unused = shape.detectors() + random.below(2 * most).saturating_sub(most);
         let round = self.random_round(percent, random);
-        let [edit, back] = match random.below(6) {
+        let present = self.outline().present();
+        let absent = shape.sheets() - present;
+        let [edit, back] = match random.below(7) {
             0 => ["dims 0 3".into(), format!("dims {} {}", shape.height, shape.distance)],
             1 => ["next 1".into(), format!("next {next}")],
             2 => ["halves 1 1", "halves 1 0"].map(String::from),
             3 => [1, 0].map(|bit| format!("last {unused} {bit}")),
+            // With the last round number every sheet is there: a call that is done would leave something in sheets that the
+            // way back makes absent.
+            kind @ 4.. if absent > 0 && (kind == 4 || self.image().stage != Stage::Rest) => {
+                self.absent_changed(present + random.below(absent), random)
+            }
             _ => ["next 4294967295".into(), format!("next {next}")],
         };
         for line in [edit.as_str(), &round, random.pick(&["grow", "merging 1", "run 1"]), &back] {

@@ -1,90 +1,114 @@
 -- `fits::node_fits` meets its contract. Assumes nothing.
 use mathlib.Core.Path.{_≡_, sym, _∙_, ap}
 use mathlib.Core.Bool.{Bool, true, false, _&&_, not}
-use Prim.Native.Nat.{ℕ, _+_}
+use Prim.Native.Nat.{ℕ, _+_, _≤_, _<_}
 use borrow.Author.Needs.{needs}
-use borrow.Author.Tests.{not-true, not-false}
+use borrow.Author.Tests.{lt-ltb, le-ltb, not-true, not-false}
 use lib.Dec.{eqb}
+use Rattle.shape.specs.Choice.{if-true, if-false}
 use Rattle.shape.specs.Sizes.{sheetsOf, boundary, nodesIn}
+use Rattle.shape.specs.Nodes.{numberOf}
 use Rattle.shape.specs.Ranges.{halves, both}
 use Rattle.steps.specs.Steps.{base}
 use Rattle.shape.specs.declared.Place.{Place}
 use Rattle.window.specs.declared.Node.{Node}
 use Rattle.window.specs.declared.Stage.{Stage}
 use Rattle.window.specs.LawsLists.{and-no, and-not}
-use Rattle.window.specs.Formed.{markFits, pointerFits, defectFits, nodeFits}
+use Rattle.window.specs.Formed.{isFresh, markFits, pointerFits, defectFits, nodeFits}
 use Rattle.fits.proofs.node_fits.Statement.{statement}
 use Rattle.fits.proofs.node_fits.Tie as tie
 
-module _ (stage : Stage) (h d : ℕ) (q : Place) (n : Node) where
+module _ (stage : Stage) (h d there led : ℕ) (q : Place) (n : Node) where
+  abbrev fits : Bool
+  fits = nodeFits base stage h d there led q n
+
   abbrev numbers : ℕ
   numbers = nodesIn h d (sheetsOf d + 1)
 
-  mark : Bool
+  abbrev mark : Bool
   mark = markFits stage numbers (n .mark)
 
-  pointer : Bool
-  pointer = pointerFits base stage h d (sheetsOf d) q (n .pointer)
+  abbrev pointer : Bool
+  pointer = pointerFits base h d led q (n .pointer)
 
-  defect : Bool
+  abbrev defect : Bool
   defect = defectFits d q (n .defect)
 
-  no-mark : (m : ℕ) (a : Bool) → m ≡ numbers → a ≡ markFits stage m (n .mark) → a ≡ false → false ≡ nodeFits base stage h d (sheetsOf d) q n
-  unfolding nodeFits mark pointer defect
-  no-mark m a e f g =
-      let x : mark ≡ false = rw (← e) (sym f ∙ g) in
-      sym (and-not (mark && pointer) defect (and-not mark pointer x))
-
-  no-pointer : (a : Bool) → a ≡ pointerFits base stage h d (sheetsOf d) q (n .pointer) → a ≡ false → false ≡ nodeFits base stage h d (sheetsOf d) q n
-  unfolding nodeFits mark pointer defect
-  no-pointer a f g = sym (and-not (mark && pointer) defect (and-no mark pointer (sym f ∙ g)))
-
-  all-fit : (m : ℕ) (a b : Bool) (edge : Bool) → m ≡ numbers → a ≡ markFits stage m (n .mark) → a ≡ true
-      → b ≡ pointerFits base stage h d (sheetsOf d) q (n .pointer) → b ≡ true → edge ≡ boundary d (q .column)
-      → not (edge && n .defect) ≡ nodeFits base stage h d (sheetsOf d) q n
+  absent : (own : ℕ) (a : Bool) → there ≤ q .depth → own ≡ numberOf h d q → a ≡ isFresh own n → a ≡ fits
   unfolding nodeFits
-  all-fit m a b edge e f g i j k = rw (← e, ← f, g, ← i, j, k)
+  absent own a l e f = f ∙ ap (λ (m : ℕ). isFresh m n) e ∙ sym (if-false _ _ _ (le-ltb (q .depth) there l))
 
-  -- no pointer and no defect: nothing depends on the place
-  plain-fits : (m : ℕ) (a : Bool) → m ≡ numbers → a ≡ markFits stage m (n .mark) → a ≡ true → eqb (n .pointer) 0 && not (n .defect) ≡ true
-      → true ≡ nodeFits base stage h d (sheetsOf d) q n
-  unfolding nodeFits mark pointer defect pointerFits
-  plain-fits m a e f g i =
-      let p = halves (eqb (n .pointer) 0) (not (n .defect)) i in
-      let x : mark ≡ true = rw (← e) (sym f ∙ g) in
-      let y : pointer ≡ true = rw (p .0) in
-      let z : defect ≡ true = ap not (and-no (boundary d (q .column)) (n .defect) (not-true (n .defect) (p .1))) in
-      sym (both (mark && pointer) defect (both mark pointer x y) z)
+  module _ (l : q .depth < there) (m : ℕ) (a : Bool) (e : m ≡ numbers) (f : a ≡ markFits stage m (n .mark)) where
+    present : mark && pointer && defect ≡ fits
+    unfolding nodeFits
+    present = sym (if-true _ _ _ (lt-ltb (q .depth) there l))
+
+    marked : a ≡ mark
+    marked = rw (← e) f
+
+    no-mark : a ≡ false → false ≡ fits
+    no-mark g = sym (and-not (mark && pointer) defect (and-not mark pointer (sym marked ∙ g))) ∙ present
+
+    no-pointer : (b : Bool) → b ≡ pointer → b ≡ false → false ≡ fits
+    no-pointer b i j = sym (and-not (mark && pointer) defect (and-no mark pointer (sym i ∙ j))) ∙ present
+
+    all-fit : (b edge : Bool) → a ≡ true → b ≡ pointer → b ≡ true → edge ≡ boundary d (q .column) → not (edge && n .defect) ≡ fits
+    all-fit b edge g i j k = rw (← present, ← marked, g, ← i, j, k)
+
+    -- no pointer and no defect: nothing depends on the place
+    plain-fits : a ≡ true → eqb (n .pointer) 0 && not (n .defect) ≡ true → true ≡ fits
+    unfolding pointerFits
+    plain-fits g i =
+        let p = halves (eqb (n .pointer) 0) (not (n .defect)) i in
+        let y : pointer ≡ true = rw (p .0) in
+        let z : defect ≡ true = ap not (and-no (boundary d (q .column)) (n .defect) (not-true (n .defect) (p .1))) in
+        sym (both (mark && pointer) defect (both mark pointer (sym marked ∙ g) y) z) ∙ present
+
+cast-if1 : tie.Need-cast-if1
+cast-if1 c = search needs
+
+number-requires : tie.Need-number-requires
+number-requires c κs = search needs
+
+is-fresh-requires : tie.Need-is-fresh-requires
+is-fresh-requires c κs = search needs
 
 mark-fits-requires : tie.Need-mark-fits-requires
 mark-fits-requires c κs = search needs
 
-returns : tie.Need-returns
-returns c = no-mark (c .before .before .args .stage) (c .before .before .args .shape .height) (c .before .before .args .shape .distance) (c .before .before .args .place) (c .before .before .args .node) (c .before .before .args .marks) (c .before .mark-fits .result) (c .before .before .pre .1) (c .before .mark-fits .ensures) (not-true _ (c .if1 .taken))
-
-returns-2 : tie.Need-returns-2
-returns-2 c = plain-fits (c .before .before .before .before .before .args .stage) (c .before .before .before .before .before .args .shape .height) (c .before .before .before .before .before .args .shape .distance) (c .before .before .before .before .before .args .place) (c .before .before .before .before .before .args .node) (c .before .before .before .before .before .args .marks) (c .before .before .before .before .mark-fits .result) (c .before .before .before .before .before .pre .1) (c .before .before .before .before .mark-fits .ensures) (not-false _ (c .before .before .before .if1 .left)) (c .if2 .taken)
-
 pointer-fits-requires : tie.Need-pointer-fits-requires
 pointer-fits-requires c κs = search needs
-
-returns-3 : tie.Need-returns-3
-returns-3 c = no-pointer (c .before .before .before .before .before .before .before .args .stage) (c .before .before .before .before .before .before .before .args .shape .height) (c .before .before .before .before .before .before .before .args .shape .distance) (c .before .before .before .before .before .before .before .args .place) (c .before .before .before .before .before .before .before .args .node) (c .before .pointer-fits .result) (c .before .pointer-fits .ensures) (not-true _ (c .if3 .taken))
 
 is-boundary-requires : tie.Need-is-boundary-requires
 is-boundary-requires c κs = search needs
 
+returns : tie.Need-returns
+returns c = let a = c .before .before .before .before .args in absent (a .stage) (a .shape .height) (a .shape .distance) (a .there) (a .led) (a .place) (a .node) _ _ (c .before .before .if1 .taken) (c .before .number .ensures) (c .is-fresh .ensures)
+
+returns-2 : tie.Need-returns-2
+returns-2 c = let a = c .before .before .before .before .args in no-mark (a .stage) (a .shape .height) (a .shape .distance) (a .there) (a .led) (a .place) (a .node) (c .before .before .if1 .left) (a .marks) (c .before .mark-fits .result) (c .before .before .before .before .pre .1 .0) (c .before .mark-fits .ensures) (not-true _ (c .if2 .taken))
+
+returns-3 : tie.Need-returns-3
+returns-3 c = let a = c .before .before .before .before .before .before .before .args in plain-fits (a .stage) (a .shape .height) (a .shape .distance) (a .there) (a .led) (a .place) (a .node) (c .before .before .before .before .before .if1 .left) (a .marks) (c .before .before .before .before .mark-fits .result) (c .before .before .before .before .before .before .before .pre .1 .0) (c .before .before .before .before .mark-fits .ensures) (not-false _ (c .before .before .before .if2 .left)) (c .if3 .taken)
+
 returns-4 : tie.Need-returns-4
-returns-4 c = all-fit (c .before .before .before .before .before .before .before .before .before .args .stage) (c .before .before .before .before .before .before .before .before .before .args .shape .height) (c .before .before .before .before .before .before .before .before .before .args .shape .distance) (c .before .before .before .before .before .before .before .before .before .args .place) (c .before .before .before .before .before .before .before .before .before .args .node) (c .before .before .before .before .before .before .before .before .before .args .marks) (c .before .before .before .before .before .before .before .before .mark-fits .result) (c .before .before .before .pointer-fits .result) (c .before .is-boundary .result) (c .before .before .before .before .before .before .before .before .before .pre .1) (c .before .before .before .before .before .before .before .before .mark-fits .ensures) (not-false _ (c .before .before .before .before .before .before .before .if1 .left)) (c .before .before .before .pointer-fits .ensures) (not-false _ (c .before .before .if3 .left)) (c .before .is-boundary .ensures)
+returns-4 c = let a = c .before .before .before .before .before .before .before .before .before .args in no-pointer (a .stage) (a .shape .height) (a .shape .distance) (a .there) (a .led) (a .place) (a .node) (c .before .before .before .before .before .before .before .if1 .left) (a .marks) (c .before .before .before .before .before .before .mark-fits .result) (c .before .before .before .before .before .before .before .before .before .pre .1 .0) (c .before .before .before .before .before .before .mark-fits .ensures) _ (c .before .pointer-fits .ensures) (not-true _ (c .if4 .taken))
+
+returns-5 : tie.Need-returns-5
+returns-5 c = let a = c .before .before .before .before .before .before .before .before .before .before .before .args in all-fit (a .stage) (a .shape .height) (a .shape .distance) (a .there) (a .led) (a .place) (a .node) (c .before .before .before .before .before .before .before .before .before .if1 .left) (a .marks) (c .before .before .before .before .before .before .before .before .mark-fits .result) (c .before .before .before .before .before .before .before .before .before .before .before .pre .1 .0) (c .before .before .before .before .before .before .before .before .mark-fits .ensures) _ _ (not-false _ (c .before .before .before .before .before .before .before .if2 .left)) (c .before .before .before .pointer-fits .ensures) (not-false _ (c .before .before .if4 .left)) (c .before .is-boundary .ensures)
 
 pub node-fits-spec : {M : Type 1} → statement M
 node-fits-spec =
     tie.close
     (tie.spec
-    mark-fits-requires
+    cast-if1
+    number-requires
+    is-fresh-requires
     returns
+    mark-fits-requires
     returns-2
-    pointer-fits-requires
     returns-3
+    pointer-fits-requires
+    returns-4
     is-boundary-requires
-    returns-4)
+    returns-5)

@@ -4,7 +4,6 @@ use mathlib.Core.Bool.{Bool, true, false, _&&_, _||_, not}
 use Prim.Native.Nat.{ℕ}
 use borrow.Author.Needs.{needs}
 use lib.Dec.{leb}
-use Rattle.shape.specs.Sizes.{sheetsOf}
 use Rattle.steps.specs.Steps.{base}
 use Rattle.window.specs.declared.Way.{Way}
 use Rattle.window.specs.Window.{reach}
@@ -22,7 +21,7 @@ full-fits : (there found : Bool) (growth : ℕ) (correction : Bool) → found �
 full-fits there found growth correction e f = rw e (ap (λ (x : Bool). leb growth 2 && x) (neither there (isEmpty growth && not correction) f))
 
 returns : tie.Need-returns
-returns c = empty-fits (reach base (c .before .args .shape .height) (c .before .args .shape .distance) (sheetsOf (c .before .args .shape .distance)) (c .before .args .pointer) (c .before .args .place) .there) (c .before .args .halves) (c .before .args .correction) (c .if1 .taken)
+returns c = empty-fits (reach base (c .before .args .shape .height) (c .before .args .shape .distance) (c .before .args .sheets) (c .before .args .pointer) (c .before .args .place) .there) (c .before .args .halves) (c .before .args .correction) (c .if1 .taken)
 
 reach-requires : tie.Need-reach-requires
 reach-requires c κs = search needs

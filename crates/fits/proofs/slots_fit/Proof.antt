@@ -3,7 +3,6 @@ use mathlib.Core.Path.{_≡_, sym}
 use mathlib.Core.Bool.{Bool, true, _&&_, not}
 use Prim.Native.Nat.{ℕ}
 use borrow.Author.Needs.{needs}
-use Rattle.shape.specs.Sizes.{sheetsOf}
 use Rattle.shape.specs.Ranges.{halves, both}
 use Rattle.steps.specs.Steps.{base}
 use Rattle.window.specs.Window.{reach}
@@ -29,7 +28,7 @@ each : (a b c x y z : Bool) → a ≡ x → b ≡ y → c ≡ z → a && b && c 
 each a b c x y z e f g = rw (e, f, g)
 
 returns : tie.Need-returns
-returns c = let s = c .before .args in all-empty (reach base (s .shape .height) (s .shape .distance) (sheetsOf (s .shape .distance)) 3 (s .place) .there) (reach base (s .shape .height) (s .shape .distance) (sheetsOf (s .shape .distance)) 4 (s .place) .there) (reach base (s .shape .height) (s .shape .distance) (sheetsOf (s .shape .distance)) 6 (s .place) .there) (s .e) (s .s) (s .u) (s .fe) (s .fs) (s .fu) (c .if1 .taken)
+returns c = let s = c .before .args in all-empty (reach base (s .shape .height) (s .shape .distance) (s .sheets) 3 (s .place) .there) (reach base (s .shape .height) (s .shape .distance) (s .sheets) 4 (s .place) .there) (reach base (s .shape .height) (s .shape .distance) (s .sheets) 6 (s .place) .there) (s .e) (s .s) (s .u) (s .fe) (s .fs) (s .fu) (c .if1 .taken)
 
 slot-fits-requires : tie.Need-slot-fits-requires
 slot-fits-requires c κs = search needs

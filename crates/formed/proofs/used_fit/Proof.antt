@@ -17,7 +17,8 @@ use Rattle.window.specs.declared.Node.{Node}
 use Rattle.window.specs.declared.Window.{Window}
 use Rattle.window.specs.Lists.{every}
 use Rattle.window.specs.LawsLists.{and-no, and-not, every-none, every-more, every-fails}
-use Rattle.window.specs.Window.{beyond, namer, reach, size, at, place}
+use Rattle.window.specs.LawsPresent.{supplied-le, pointed-le}
+use Rattle.window.specs.Window.{beyond, namer, reach, size, present, pointed, at, place}
 use Rattle.window.specs.Formed.{nodeFits, slotFits, nodeFitsAt, slotFitsAt}
 use Rattle.formed.proofs.used_fit.Statement.{statement}
 use Rattle.formed.proofs.used_fit.Tie as tie
@@ -42,18 +43,18 @@ module _ (w : Window) (g : ℕ) where
   all-fit e p q =
       sym (both (every (size w) (nodeFitsAt base w)) (every (size w) (slotsFitAt w)) (subst (λ (k : ℕ). every k (nodeFitsAt base w) ≡ true) e p) (subst (λ (k : ℕ). every k (slotsFitAt w) ≡ true) e q))
 
-module _ (w : Window) (g : ℕ) (q : Place) (e : q ≡ place w g) where
-  node-fits-at : (n : Node) (a : Bool) → n ≡ at w g → a ≡ nodeFits base (w .stage) (w .shape .height) (w .shape .distance) (sheetsOf (w .shape .distance)) q n → a ≡ nodeFitsAt base w g
-  node-fits-at n a f p = rw (← e, ← f) p
+module _ (w : Window) (g : ℕ) (q : Place) (e : q ≡ place w g) (there : ℕ) (so-many : there ≡ present w) where
+  node-fits-at : (led : ℕ) (n : Node) (a : Bool) → led ≡ pointed w → n ≡ at w g → a ≡ nodeFits base (w .stage) (w .shape .height) (w .shape .distance) there led q n → a ≡ nodeFitsAt base w g
+  node-fits-at led n a l f p = p ∙ rw (so-many, l, e, f)
 
   -- the slot of a kind, found by the pointer p and read at the place i
   abbrev slotBy : ℕ → ℕ → Bool
   slotBy p i =
-      slotFits (reach base (w .shape .height) (w .shape .distance) (sheetsOf (w .shape .distance)) p q .there) (getD (w .growth) i 0) (getD (w .correction) i false)
+      slotFits (reach base (w .shape .height) (w .shape .distance) there p q .there) (getD (w .growth) i 0) (getD (w .correction) i false)
 
   slot-at : (kind p i : ℕ) → namer base kind ≡ p → i ≡ 3 * g + kind → slotBy p i ≡ slotFitsAt base w g kind
   unfolding slotFitsAt
-  slot-at kind p i f k = rw (f, three-kinds, ← e, k)
+  slot-at kind p i f k = rw (f, three-kinds, so-many, e, k)
 
   slots-fit-at : (a : Bool) → a ≡ slotBy 3 (3 * g) && slotBy 4 (3 * g + 1) && slotBy 6 (3 * g + 2) → a ≡ slotsFitAt w g
   unfolding every
@@ -68,31 +69,31 @@ record Passed (w : Window) (n : ℕ) (q : Place) (g : ℕ) : Type 0 where
   slots : every g (slotsFitAt w) ≡ true
 
 abbrev Inv-loop : tie.InvT-loop
-Inv-loop w shape stage n marks place₀ g₀ place g = Passed w n place g
+Inv-loop w shape stage n marks there led place₀ g₀ place g = Passed w n place g
 
 abbrev μ-loop : tie.MeasureT-loop
-μ-loop w shape stage n marks place₀ g₀ place g = n - g
+μ-loop w shape stage n marks there led place₀ g₀ place g = n - g
 
 -- WHAT A TURN KNOWS
 
 module _ (c : tie.In-loop Inv-loop μ-loop) where
-  counted : c .before .loop .g < size (c .before .before .before .before .before .args .t1)
-  counted = omega (arith, c .loop-test .taken, c .before .before .before .nodes .ensures)
+  counted : c .before .loop .g < size (c .before .before .before .before .before .before .before .args .t1)
+  counted = omega (arith, c .loop-test .taken, c .before .before .before .before .before .nodes .ensures)
 
   low : c .before .loop .g < 3600
-  low = let w = c .before .before .before .before .before .args .t1 in omega (arith, counted, nodes-max (w .shape .height) (w .shape .distance))
+  low = let w = c .before .before .before .before .before .before .before .args .t1 in omega (arith, counted, nodes-max (w .shape .height) (w .shape .distance))
 
-  here : c .before .loop .place ≡ place (c .before .before .before .before .before .args .t1) (c .before .loop .g)
-  here = let w = c .before .before .before .before .before .args .t1 in c .before .loop .inv .stood (peopled (w .shape .height) (w .shape .distance) (c .before .loop .g) counted .h1)
+  here : c .before .loop .place ≡ place (c .before .before .before .before .before .before .before .args .t1) (c .before .loop .g)
+  here = let w = c .before .before .before .before .before .before .before .args .t1 in c .before .loop .inv .stood (peopled (w .shape .height) (w .shape .distance) (c .before .loop .g) counted .h1)
 
-  on : let s = c .before .before .before .before .before .args .t1 .shape in Stands (s .height) (s .distance) (c .before .loop .place) (c .before .loop .g)
-  on = let s = c .before .before .before .before .before .args .t1 .shape in rw here (stands (s .height) (s .distance) (peopled (s .height) (s .distance) (c .before .loop .g) counted) (c .before .loop .g) counted)
+  on : let s = c .before .before .before .before .before .before .before .args .t1 .shape in Stands (s .height) (s .distance) (c .before .loop .place) (c .before .loop .g)
+  on = let s = c .before .before .before .before .before .before .before .args .t1 .shape in rw here (stands (s .height) (s .distance) (peopled (s .height) (s .distance) (c .before .loop .g) counted) (c .before .loop .g) counted)
 
-node-at : (c : tie.After-node-fits Inv-loop μ-loop) → c .node-fits .result ≡ nodeFitsAt base (c .before .before .before .before .before .before .before .args .t1) (c .before .before .before .loop .g)
-node-at c = node-fits-at (c .before .before .before .before .before .before .before .args .t1) (c .before .before .before .loop .g) (c .before .before .before .loop .place) (here (c .before .before)) (getD (c .before .before .before .before .before .before .before .args .t1 .nodes) (c .before .before .before .loop .g) beyond) (c .node-fits .result) refl (c .node-fits .ensures)
+node-at : (c : tie.After-node-fits Inv-loop μ-loop) → c .node-fits .result ≡ nodeFitsAt base (c .before .before .before .before .before .before .before .before .before .args .t1) (c .before .before .before .loop .g)
+node-at c = node-fits-at (c .before .before .before .before .before .before .before .before .before .args .t1) (c .before .before .before .loop .g) (c .before .before .before .loop .place) (here (c .before .before)) _ (c .before .before .before .before .before .present .ensures) _ (getD (c .before .before .before .before .before .before .before .before .before .args .t1 .nodes) (c .before .before .before .loop .g) beyond) (c .node-fits .result) (c .before .before .before .before .pointed .ensures) refl (c .node-fits .ensures)
 
-slots-at : (c : tie.After-slots-fit Inv-loop μ-loop) → c .slots-fit .result ≡ slotsFitAt (c .before .before .before .before .before .before .before .before .before .before .before .before .before .before .before .args .t1) (c .before .before .before .before .before .before .before .before .before .before .before .loop .g)
-slots-at c = slots-fit-at (c .before .before .before .before .before .before .before .before .before .before .before .before .before .before .before .args .t1) (c .before .before .before .before .before .before .before .before .before .before .before .loop .g) (c .before .before .before .before .before .before .before .before .before .before .before .loop .place) (here (c .before .before .before .before .before .before .before .before .before .before)) (c .slots-fit .result) (c .slots-fit .ensures)
+slots-at : (c : tie.After-slots-fit Inv-loop μ-loop) → c .slots-fit .result ≡ slotsFitAt (c .before .before .before .before .before .before .before .before .before .before .before .before .before .before .before .before .before .args .t1) (c .before .before .before .before .before .before .before .before .before .before .before .loop .g)
+slots-at c = slots-fit-at (c .before .before .before .before .before .before .before .before .before .before .before .before .before .before .before .before .before .args .t1) (c .before .before .before .before .before .before .before .before .before .before .before .loop .g) (c .before .before .before .before .before .before .before .before .before .before .before .loop .place) (here (c .before .before .before .before .before .before .before .before .before .before)) _ (c .before .before .before .before .before .before .before .before .before .before .before .before .before .present .ensures) (c .slots-fit .result) (c .slots-fit .ensures)
 
 nodes-requires : tie.Need-nodes-requires Inv-loop μ-loop
 nodes-requires c κs = search needs
@@ -100,8 +101,14 @@ nodes-requires c κs = search needs
 numbers-requires : tie.Need-numbers-requires Inv-loop μ-loop
 numbers-requires c κs = search needs
 
+present-requires : tie.Need-present-requires Inv-loop μ-loop
+present-requires c κs = search needs
+
+pointed-requires : tie.Need-pointed-requires Inv-loop μ-loop
+pointed-requires c κs = search needs
+
 loop-holds : tie.Need-loop-holds Inv-loop μ-loop
-loop-holds c = let w = c .before .before .before .args .t1 in record { within = omega arith; stood = first-place (w .shape .height) (w .shape .distance); nodes = every-none (nodeFitsAt base w); slots = every-none (slotsFitAt w) }
+loop-holds c = let w = c .before .before .before .before .before .args .t1 in record { within = omega arith; stood = first-place (w .shape .height) (w .shape .distance); nodes = every-none (nodeFitsAt base w); slots = every-none (slotsFitAt w) }
 
 mul-node : tie.Need-mul-node Inv-loop μ-loop
 mul-node c = omega (arith, low c)
@@ -110,10 +117,12 @@ element-copy-out-node : tie.Need-element-copy-out-node Inv-loop μ-loop
 element-copy-out-node c = low c
 
 node-fits-requires : tie.Need-node-fits-requires Inv-loop μ-loop
-node-fits-requires c κs = (on (c .before), c .before .before .before .numbers .ensures)
+node-fits-requires c κs =
+    let w = c .before .before .before .before .before .before .before .before .args .t1 in
+    (on (c .before), (c .before .before .before .before .before .numbers .ensures, rw (c .before .before .before .pointed .ensures) (pointed-le (w .shape .distance) (w .next) (w .stage))))
 
 returns : tie.Need-returns Inv-loop μ-loop
-returns c = no-node (c .before .before .before .before .before .before .before .before .args .t1) _ _ (counted (c .before .before .before)) (node-at (c .before)) (not-true _ (c .if1 .taken))
+returns c = no-node (c .before .before .before .before .before .before .before .before .before .before .args .t1) _ _ (counted (c .before .before .before)) (node-at (c .before)) (not-true _ (c .if1 .taken))
 
 mul-e : tie.Need-mul-e Inv-loop μ-loop
 mul-e c = omega (arith, low (c .before .before .before))
@@ -149,10 +158,12 @@ element-copy-out-slots-fit-6 : tie.Need-element-copy-out-slots-fit-6 Inv-loop μ
 element-copy-out-slots-fit-6 c = omega (arith, low (c .before .before .before .before .before .before .before .before))
 
 slots-fit-requires : tie.Need-slots-fit-requires Inv-loop μ-loop
-slots-fit-requires c κs = on (c .before .before .before .before .before .before .before .before .before)
+slots-fit-requires c κs =
+    let w = c .before .before .before .before .before .before .before .before .before .before .before .before .before .before .before .before .args .t1 in
+    (on (c .before .before .before .before .before .before .before .before .before), omega (arith, c .before .before .before .before .before .before .before .before .before .before .before .before .present .ensures, supplied-le (w .shape .distance) (w .next) (sheetsOf (w .shape .distance))))
 
 returns-2 : tie.Need-returns-2 Inv-loop μ-loop
-returns-2 c = no-slot (c .before .before .before .before .before .before .before .before .before .before .before .before .before .before .before .before .args .t1) _ _ (counted (c .before .before .before .before .before .before .before .before .before .before .before)) (slots-at (c .before)) (not-true _ (c .if2 .taken))
+returns-2 c = no-slot (c .before .before .before .before .before .before .before .before .before .before .before .before .before .before .before .before .before .before .args .t1) _ _ (counted (c .before .before .before .before .before .before .before .before .before .before .before)) (slots-at (c .before)) (not-true _ (c .if2 .taken))
 
 next-place-requires : tie.Need-next-place-requires Inv-loop μ-loop
 next-place-requires c κs = omega (arith, depth-low _ _ _ _ (on (c .before .before .before .before .before .before .before .before .before .before .before)))
@@ -164,7 +175,7 @@ loop-less : tie.Need-loop-less Inv-loop μ-loop
 loop-less c = omega (arith, c .before .before .before .before .before .before .before .before .before .before .before .before .loop-test .taken)
 
 loop-again : tie.Need-loop-again Inv-loop μ-loop
-loop-again c = let w = c .before .before .before .before .before .before .before .before .before .before .before .before .before .before .before .before .before .args .t1 in
+loop-again c = let w = c .before .before .before .before .before .before .before .before .before .before .before .before .before .before .before .before .before .before .before .args .t1 in
     let l = c .before .before .before .before .before .before .before .before .before .before .before .before .before .loop in
     record {
       within = omega (arith, c .before .before .before .before .before .before .before .before .before .before .before .before .loop-test .taken);
@@ -174,7 +185,7 @@ loop-again c = let w = c .before .before .before .before .before .before .before
     }
 
 returns-3 : tie.Need-returns-3 Inv-loop μ-loop
-returns-3 c = let w = c .before .before .before .before .before .args .t1 in let l = c .before .loop in all-fit w (l .g) (le-antisymm (omega (arith, c .before .before .before .nodes .ensures)) (omega (arith, c .loop-test .left, c .before .before .before .nodes .ensures))) (l .inv .nodes) (l .inv .slots)
+returns-3 c = let w = c .before .before .before .before .before .before .before .args .t1 in let l = c .before .loop in all-fit w (l .g) (le-antisymm (omega (arith, c .before .before .before .before .before .nodes .ensures)) (omega (arith, c .loop-test .left, c .before .before .before .before .before .nodes .ensures))) (l .inv .nodes) (l .inv .slots)
 
 pub used-fit-spec : {M : Type 1} → statement M
 used-fit-spec =
@@ -184,6 +195,8 @@ used-fit-spec =
     μ-loop
     nodes-requires
     numbers-requires
+    present-requires
+    pointed-requires
     loop-holds
     mul-node
     element-copy-out-node

@@ -6,12 +6,14 @@ use native.Mathlib.Nat.{mul-le-mul}
 use native.Mathlib.Omega.{arith}
 use borrow.Author.Needs.{needs}
 use lib.ListN.{length, set, length-map}
+use Rattle.shape.specs.Sizes.{sheetsOf}
 use Rattle.shape.specs.Nodes.{placeAt}
 use Rattle.steps.specs.Steps.{base}
 use Rattle.walk.specs.Walk.{Stands}
 use Rattle.walk.specs.LawsWalk.{first-place, stands-at, stands-low, depth-low, walks-on, ends-low, named-east, named-south, named-up}
 use Rattle.window.specs.Lists.{over}
 use Rattle.window.specs.LawsLists.{over-none, over-next}
+use Rattle.window.specs.LawsPresent.{supplied-le}
 use Rattle.window.specs.Window.{size, at, beyond}
 use Rattle.window.specs.Grow.{grownNode, grownSlot, grown}
 use Rattle.window.specs.declared.Node.{Node}
@@ -56,10 +58,10 @@ ends : (w v : Window) (g : ℕ) → g ≡ size w → Grown w v g → v ≡ grown
 ends w v g z e = e ∙ finished w g _ _ z refl refl
 
 abbrev Inv-loop : tie.InvT-loop
-Inv-loop w shape n row sheet v₀ next₀ count₀ v next count = (count ≤ n) × (1 ≤ w .shape .height → next ≡ placeAt (w .shape .height) (w .shape .distance) count) × Grown w v count
+Inv-loop w shape n there row sheet v₀ next₀ count₀ v next count = (count ≤ n) × (1 ≤ w .shape .height → next ≡ placeAt (w .shape .height) (w .shape .distance) count) × Grown w v count
 
 abbrev μ-loop : tie.MeasureT-loop
-μ-loop w shape n row sheet v₀ next₀ count₀ v next count = n - count
+μ-loop w shape n there row sheet v₀ next₀ count₀ v next count = n - count
 
 long : (c : tie.Start Inv-loop μ-loop) → length (c .args .t1 .nodes) ≡ 3600
 long c = simp length-map at (c .good .0 .1 .1 .1 .1 .1 .0 .1 .0 .1)
@@ -69,23 +71,30 @@ halves c = simp length-map at (c .good .0 .1 .1 .1 .1 .1 .1 .0 .1 .0 .1)
 
 -- the node of this turn
 module _ (c : tie.In-loop Inv-loop μ-loop) where
-  here : Stands (c .before .before .before .before .before .before .before .before .before .before .args .t1 .shape .height) (c .before .before .before .before .before .before .before .before .before .before .args .t1 .shape .distance) (c .before .loop .next) (c .before .loop .count)
-  here = stands-at _ _ _ _ _ (c .before .before .before .before .before .before .before .before .nodes .ensures) (c .loop-test .taken) (c .before .loop .inv .1)
+  here : Stands (c .before .before .before .before .before .before .before .before .before .before .before .args .t1 .shape .height) (c .before .before .before .before .before .before .before .before .before .before .before .args .t1 .shape .distance) (c .before .loop .next) (c .before .loop .count)
+  here = stands-at _ _ _ _ _ (c .before .before .before .before .before .before .before .before .before .nodes .ensures) (c .loop-test .taken) (c .before .loop .inv .1)
 
   low : c .before .loop .count < 3600
   low = stands-low _ _ _ _ here
 
-  placed : c .before .loop .next ≡ placeAt (c .before .before .before .before .before .before .before .before .before .before .args .t1 .shape .height) (c .before .before .before .before .before .before .before .before .before .before .args .t1 .shape .distance) (c .before .loop .count)
+  placed : c .before .loop .next ≡ placeAt (c .before .before .before .before .before .before .before .before .before .before .before .args .t1 .shape .height) (c .before .before .before .before .before .before .before .before .before .before .before .args .t1 .shape .distance) (c .before .loop .count)
   placed = c .before .loop .inv .1 (here .ranged .h1)
 
-  in-nodes : c .before .loop .count < length (c .before .before .before .before .before .before .before .before .before .before .args .t1 .nodes)
-  in-nodes = omega (arith, low, long (c .before .before .before .before .before .before .before .before .before .before))
+  in-nodes : c .before .loop .count < length (c .before .before .before .before .before .before .before .before .before .before .before .args .t1 .nodes)
+  in-nodes = omega (arith, low, long (c .before .before .before .before .before .before .before .before .before .before .before))
 
-  in-growth : 3 * c .before .loop .count + 2 < length (c .before .before .before .before .before .before .before .before .before .before .args .t1 .growth)
-  in-growth = omega (arith, low, halves (c .before .before .before .before .before .before .before .before .before .before))
+  in-growth : 3 * c .before .loop .count + 2 < length (c .before .before .before .before .before .before .before .before .before .before .before .args .t1 .growth)
+  in-growth = omega (arith, low, halves (c .before .before .before .before .before .before .before .before .before .before .before))
+
+  -- no more sheets are there than the window has
+  few : c .before .before .before .before .before .before .before .before .present .result ≤ sheetsOf (c .before .before .before .before .before .before .before .before .before .before .before .args .t1 .shape .distance)
+  few = let w = c .before .before .before .before .before .before .before .before .before .before .before .args .t1 in rw (c .before .before .before .before .before .before .before .before .present .ensures) (supplied-le (w .shape .distance) (w .next) (sheetsOf (w .shape .distance)))
 
 nodes-requires : tie.Need-nodes-requires Inv-loop μ-loop
 nodes-requires c κs = search needs
+
+present-requires : tie.Need-present-requires Inv-loop μ-loop
+present-requires c κs = search needs
 
 cast-row : tie.Need-cast-row Inv-loop μ-loop
 cast-row c = search needs
@@ -97,10 +106,10 @@ cast-sheet : tie.Need-cast-sheet Inv-loop μ-loop
 cast-sheet c = search needs
 
 mul-sheet : tie.Need-mul-sheet Inv-loop μ-loop
-mul-sheet c = let s = c .before .before .before .before .args .t1 .shape in let a : s .height ≤ 255 = omega (arith, c .struct-known2 .given) in let b : s .distance + 1 ≤ 256 = omega (arith, c .before .struct-known .given) in omega (arith, mul-le-mul {n₂ = 255} {m₂ = 256} a b)
+mul-sheet c = let s = c .before .before .before .before .before .args .t1 .shape in let a : s .height ≤ 255 = omega (arith, c .struct-known2 .given) in let b : s .distance + 1 ≤ 256 = omega (arith, c .before .struct-known .given) in omega (arith, mul-le-mul {n₂ = 255} {m₂ = 256} a b)
 
 loop-holds : tie.Need-loop-holds Inv-loop μ-loop
-loop-holds c = let w = c .before .before .before .before .before .before .before .before .args .t1 in (omega arith, first-place (w .shape .height) (w .shape .distance), starts w)
+loop-holds c = let w = c .before .before .before .before .before .before .before .before .before .args .t1 in (omega arith, first-place (w .shape .height) (w .shape .distance), starts w)
 
 add-count : tie.Need-add-count Inv-loop μ-loop
 add-count c = omega (arith, low (c))
@@ -169,7 +178,15 @@ loop-less : tie.Need-loop-less Inv-loop μ-loop
 loop-less c = omega (arith, c .before .before .before .before .before .before .before .before .before .before .before .before .before .before .before .before .before .loop-test .taken)
 
 loop-again : tie.Need-loop-again Inv-loop μ-loop
-loop-again c = (omega (arith, c .before .before .before .before .before .before .before .before .before .before .before .before .before .before .before .before .before .loop-test .taken), walks-on (c .before .before .before .before .before .before .before .before .before .before .before .before .before .before .before .before .before .before .before .before .before .before .before .before .before .before .before .args .t1 .shape .height) (c .before .before .before .before .before .before .before .before .before .before .before .before .before .before .before .before .before .before .before .before .before .before .before .before .before .before .before .args .t1 .shape .distance) _ _ _ (c .before .before .before .before .before .before .before .before .before .before .before .before .before .before .before .before .before .before .loop .inv .1) (c .before .before .before .before .before .before .before .before .before .before .before .before .before .before .before .before .next-place .ensures), skips (c .before .before .before .before .before .before .before .before .before .before .before .before .before .before .before .before .before .before .before .before .before .before .before .before .before .before .before .args .t1) (c .before .before .before .before .before .before .before .before .before .before .before .before .before .before .before .before .before .before .loop .v) _ (c .before .before .before .before .before .before .before .before .before .before .before .before .before .before .before .before .before .before .loop .inv .2) (in-nodes (c .before .before .before .before .before .before .before .before .before .before .before .before .before .before .before .before .before)) (quiet (c .before .before .before .before .before .before .before .before .before .before .before .before .before .before .before .before .before .before .before .before .before .before .before .before .before .before .before .args .t1) _ _ _ _ _ (here (c .before .before .before .before .before .before .before .before .before .before .before .before .before .before .before .before .before)) (placed (c .before .before .before .before .before .before .before .before .before .before .before .before .before .before .before .before .before)) (c .before .before .before .before .before .before .before .before .before .before .before .before .before .before .within .ensures .1) (c .before .before .before .before .before .before .before .before .before .before .before .before .before .within2 .ensures .1) (c .before .before .before .before .before .before .before .before .before .before .before .before .above .ensures) (c .if1 .taken) (in-growth (c .before .before .before .before .before .before .before .before .before .before .before .before .before .before .before .before .before))))
+loop-again c =
+    let i = c .before .before .before .before .before .before .before .before .before .before .before .before .before .before .before .before .before in
+    let l = i .before .loop in
+    let w = i .before .before .before .before .before .before .before .before .before .before .before .args .t1 in (
+      omega (arith, i .loop-test .taken),
+      walks-on (w .shape .height) (w .shape .distance) _ _ _ (l .inv .1) (c .before .before .before .before .before .before .before .before .before .before .before .before .before .before .before .before .next-place .ensures),
+      skips w (l .v) _ (l .inv .2) (in-nodes i)
+          (quiet w _ _ _ _ _ (here i) (placed i) (c .before .before .before .before .before .before .before .before .before .before .before .before .before .before .within .ensures .1) (c .before .before .before .before .before .before .before .before .before .before .before .before .before .within2 .ensures .1) (c .before .before .before .before .before .before .before .before .before .before .before .before .above .ensures) (c .if1 .taken) (in-growth i)),
+    )
 
 cut-down-requires : tie.Need-cut-down-requires Inv-loop μ-loop
 cut-down-requires c κs = search needs
@@ -181,22 +198,22 @@ element-set-from-gain : tie.Need-element-set-from-gain Inv-loop μ-loop
 element-set-from-gain c = omega (arith, low (c .before .before .before .before .before .before .before .before .before .before .before .before .before .before .before .before .before .before))
 
 reach-requires : tie.Need-reach-requires Inv-loop μ-loop
-reach-requires c κs = here (c .before .before .before .before .before .before .before .before .before .before .before .before .before .before .before .before .before .before)
+reach-requires c κs = (here (c .before .before .before .before .before .before .before .before .before .before .before .before .before .before .before .before .before .before), omega (arith, few (c .before .before .before .before .before .before .before .before .before .before .before .before .before .before .before .before .before .before)))
 
 reach-requires-2 : tie.Need-reach-requires-2 Inv-loop μ-loop
-reach-requires-2 c κs = here (c .before .before .before .before .before .before .before .before .before .before .before .before .before .before .before .before .before .before .before)
+reach-requires-2 c κs = (here (c .before .before .before .before .before .before .before .before .before .before .before .before .before .before .before .before .before .before .before), omega (arith, few (c .before .before .before .before .before .before .before .before .before .before .before .before .before .before .before .before .before .before .before)))
 
 reach-requires-3 : tie.Need-reach-requires-3 Inv-loop μ-loop
-reach-requires-3 c κs = here (c .before .before .before .before .before .before .before .before .before .before .before .before .before .before .before .before .before .before .before .before)
+reach-requires-3 c κs = (here (c .before .before .before .before .before .before .before .before .before .before .before .before .before .before .before .before .before .before .before .before), omega (arith, few (c .before .before .before .before .before .before .before .before .before .before .before .before .before .before .before .before .before .before .before .before)))
 
 element-copy-out-gain : tie.Need-element-copy-out-gain Inv-loop μ-loop
 element-copy-out-gain c = omega (arith, low (c .before .before .before .before .before .before .before .before .before .before .before .before .before .before .before .before .before .before .before .before .before))
 
 mul-gain-2 : tie.Need-mul-gain-2 Inv-loop μ-loop
-mul-gain-2 c = omega (arith, ends-low _ _ _ _ _ (here (c .before .before .before .before .before .before .before .before .before .before .before .before .before .before .before .before .before .before .before .before .before .before) .ranged) (c .before .before .before .reach .ensures) .0)
+mul-gain-2 c = omega (arith, ends-low _ _ _ _ _ _ (here (c .before .before .before .before .before .before .before .before .before .before .before .before .before .before .before .before .before .before .before .before .before .before) .ranged) (few (c .before .before .before .before .before .before .before .before .before .before .before .before .before .before .before .before .before .before .before .before .before .before)) (c .before .before .before .reach .ensures) .0)
 
 element-copy-out-gain-2 : tie.Need-element-copy-out-gain-2 Inv-loop μ-loop
-element-copy-out-gain-2 c = omega (arith, ends-low _ _ _ _ _ (here (c .before .before .before .before .before .before .before .before .before .before .before .before .before .before .before .before .before .before .before .before .before .before) .ranged) (c .before .before .before .reach .ensures) .0)
+element-copy-out-gain-2 c = omega (arith, ends-low _ _ _ _ _ _ (here (c .before .before .before .before .before .before .before .before .before .before .before .before .before .before .before .before .before .before .before .before .before .before) .ranged) (few (c .before .before .before .before .before .before .before .before .before .before .before .before .before .before .before .before .before .before .before .before .before .before)) (c .before .before .before .reach .ensures) .0)
 
 gain-requires : tie.Need-gain-requires Inv-loop μ-loop
 gain-requires c κs = search needs
@@ -211,10 +228,10 @@ element-copy-out-gain-3 : tie.Need-element-copy-out-gain-3 Inv-loop μ-loop
 element-copy-out-gain-3 c = omega (arith, low (c .before .before .before .before .before .before .before .before .before .before .before .before .before .before .before .before .before .before .before .before .before .before .before .before))
 
 mul-gain-3 : tie.Need-mul-gain-3 Inv-loop μ-loop
-mul-gain-3 c = omega (arith, ends-low _ _ _ _ _ (here (c .before .before .before .before .before .before .before .before .before .before .before .before .before .before .before .before .before .before .before .before .before .before .before .before .before) .ranged) (c .before .before .before .before .before .reach2 .ensures) .0)
+mul-gain-3 c = omega (arith, ends-low _ _ _ _ _ _ (here (c .before .before .before .before .before .before .before .before .before .before .before .before .before .before .before .before .before .before .before .before .before .before .before .before .before) .ranged) (few (c .before .before .before .before .before .before .before .before .before .before .before .before .before .before .before .before .before .before .before .before .before .before .before .before .before)) (c .before .before .before .before .before .reach2 .ensures) .0)
 
 element-copy-out-gain-4 : tie.Need-element-copy-out-gain-4 Inv-loop μ-loop
-element-copy-out-gain-4 c = omega (arith, ends-low _ _ _ _ _ (here (c .before .before .before .before .before .before .before .before .before .before .before .before .before .before .before .before .before .before .before .before .before .before .before .before .before) .ranged) (c .before .before .before .before .before .reach2 .ensures) .0)
+element-copy-out-gain-4 c = omega (arith, ends-low _ _ _ _ _ _ (here (c .before .before .before .before .before .before .before .before .before .before .before .before .before .before .before .before .before .before .before .before .before .before .before .before .before) .ranged) (few (c .before .before .before .before .before .before .before .before .before .before .before .before .before .before .before .before .before .before .before .before .before .before .before .before .before)) (c .before .before .before .before .before .reach2 .ensures) .0)
 
 gain-requires-2 : tie.Need-gain-requires-2 Inv-loop μ-loop
 gain-requires-2 c κs = search needs
@@ -232,10 +249,10 @@ element-copy-out-gain-5 : tie.Need-element-copy-out-gain-5 Inv-loop μ-loop
 element-copy-out-gain-5 c = omega (arith, low (c .before .before .before .before .before .before .before .before .before .before .before .before .before .before .before .before .before .before .before .before .before .before .before .before .before .before .before))
 
 mul-gain-4 : tie.Need-mul-gain-4 Inv-loop μ-loop
-mul-gain-4 c = omega (arith, ends-low _ _ _ _ _ (here (c .before .before .before .before .before .before .before .before .before .before .before .before .before .before .before .before .before .before .before .before .before .before .before .before .before .before .before .before) .ranged) (c .before .before .before .before .before .before .before .reach3 .ensures) .0)
+mul-gain-4 c = omega (arith, ends-low _ _ _ _ _ _ (here (c .before .before .before .before .before .before .before .before .before .before .before .before .before .before .before .before .before .before .before .before .before .before .before .before .before .before .before .before) .ranged) (few (c .before .before .before .before .before .before .before .before .before .before .before .before .before .before .before .before .before .before .before .before .before .before .before .before .before .before .before .before)) (c .before .before .before .before .before .before .before .reach3 .ensures) .0)
 
 element-copy-out-gain-6 : tie.Need-element-copy-out-gain-6 Inv-loop μ-loop
-element-copy-out-gain-6 c = omega (arith, ends-low _ _ _ _ _ (here (c .before .before .before .before .before .before .before .before .before .before .before .before .before .before .before .before .before .before .before .before .before .before .before .before .before .before .before .before) .ranged) (c .before .before .before .before .before .before .before .reach3 .ensures) .0)
+element-copy-out-gain-6 c = omega (arith, ends-low _ _ _ _ _ _ (here (c .before .before .before .before .before .before .before .before .before .before .before .before .before .before .before .before .before .before .before .before .before .before .before .before .before .before .before .before) .ranged) (few (c .before .before .before .before .before .before .before .before .before .before .before .before .before .before .before .before .before .before .before .before .before .before .before .before .before .before .before .before)) (c .before .before .before .before .before .before .before .reach3 .ensures) .0)
 
 gain-requires-3 : tie.Need-gain-requires-3 Inv-loop μ-loop
 gain-requires-3 c κs = search needs
@@ -250,10 +267,20 @@ loop-less-2 : tie.Need-loop-less-2 Inv-loop μ-loop
 loop-less-2 c = omega (arith, c .before .before .before .before .before .before .before .before .before .before .before .before .before .before .before .before .before .before .before .before .before .before .before .before .before .before .before .before .before .before .loop-test .taken)
 
 loop-again-2 : tie.Need-loop-again-2 Inv-loop μ-loop
-loop-again-2 c = (omega (arith, c .before .before .before .before .before .before .before .before .before .before .before .before .before .before .before .before .before .before .before .before .before .before .before .before .before .before .before .before .before .before .loop-test .taken), walks-on (c .before .before .before .before .before .before .before .before .before .before .before .before .before .before .before .before .before .before .before .before .before .before .before .before .before .before .before .before .before .before .before .before .before .before .before .before .before .before .before .before .args .t1 .shape .height) (c .before .before .before .before .before .before .before .before .before .before .before .before .before .before .before .before .before .before .before .before .before .before .before .before .before .before .before .before .before .before .before .before .before .before .before .before .before .before .before .before .args .t1 .shape .distance) _ _ _ (c .before .before .before .before .before .before .before .before .before .before .before .before .before .before .before .before .before .before .before .before .before .before .before .before .before .before .before .before .before .before .before .loop .inv .1) (c .before .before .before .before .before .before .before .before .before .before .before .before .before .before .before .before .before .before .before .before .before .before .before .before .before .before .before .before .before .next-place .ensures), grows (c .before .before .before .before .before .before .before .before .before .before .before .before .before .before .before .before .before .before .before .before .before .before .before .before .before .before .before .before .before .before .before .before .before .before .before .before .before .before .before .before .args .t1) (c .before .before .before .before .before .before .before .before .before .before .before .before .before .before .before .before .before .before .before .before .before .before .before .before .before .before .before .before .before .before .before .loop .v) _ (c .before .before .before .before .before .before .before .before .before .before .before .before .before .before .before .before .before .before .before .before .before .before .before .before .before .before .before .before .before .before .before .loop .inv .2) _ (node-by (c .before .before .before .before .before .before .before .before .before .before .before .before .before .before .before .before .before .before .before .before .before .before .before .before .before .before .before .before .before .before .before .before .before .before .before .before .before .before .before .before .args .t1) _ _ _ _ (placed (c .before .before .before .before .before .before .before .before .before .before .before .before .before .before .before .before .before .before .before .before .before .before .before .before .before .before .before .before .before .before)) refl (c .before .before .before .before .before .before .before .before .before .before .before .before .cut-down .ensures)) (in-nodes (c .before .before .before .before .before .before .before .before .before .before .before .before .before .before .before .before .before .before .before .before .before .before .before .before .before .before .before .before .before .before)) _ _ _ (in-growth (c .before .before .before .before .before .before .before .before .before .before .before .before .before .before .before .before .before .before .before .before .before .before .before .before .before .before .before .before .before .before)) (slot-by (c .before .before .before .before .before .before .before .before .before .before .before .before .before .before .before .before .before .before .before .before .before .before .before .before .before .before .before .before .before .before .before .before .before .before .before .before .before .before .before .before .args .t1) _ 0 _ (3 * c .before .before .before .before .before .before .before .before .before .before .before .before .before .before .before .before .before .before .before .before .before .before .before .before .before .before .before .before .before .before .before .loop .count) _ _ _ _ _ (omega arith) (omega arith) named-east (placed (c .before .before .before .before .before .before .before .before .before .before .before .before .before .before .before .before .before .before .before .before .before .before .before .before .before .before .before .before .before .before)) (c .before .before .before .before .before .before .before .before .before .before .before .reach .ensures) refl refl (c .before .before .before .before .before .before .gain .ensures)) (slot-by (c .before .before .before .before .before .before .before .before .before .before .before .before .before .before .before .before .before .before .before .before .before .before .before .before .before .before .before .before .before .before .before .before .before .before .before .before .before .before .before .before .args .t1) _ 1 _ (3 * c .before .before .before .before .before .before .before .before .before .before .before .before .before .before .before .before .before .before .before .before .before .before .before .before .before .before .before .before .before .before .before .loop .count + 1) _ _ _ _ _ (omega arith) (omega arith) named-south (placed (c .before .before .before .before .before .before .before .before .before .before .before .before .before .before .before .before .before .before .before .before .before .before .before .before .before .before .before .before .before .before)) (c .before .before .before .before .before .before .before .before .before .before .reach2 .ensures) refl refl (c .before .before .before .gain2 .ensures)) (slot-by (c .before .before .before .before .before .before .before .before .before .before .before .before .before .before .before .before .before .before .before .before .before .before .before .before .before .before .before .before .before .before .before .before .before .before .before .before .before .before .before .before .args .t1) _ 2 _ (3 * c .before .before .before .before .before .before .before .before .before .before .before .before .before .before .before .before .before .before .before .before .before .before .before .before .before .before .before .before .before .before .before .loop .count + 2) _ _ _ _ _ (omega arith) (omega arith) named-up (placed (c .before .before .before .before .before .before .before .before .before .before .before .before .before .before .before .before .before .before .before .before .before .before .before .before .before .before .before .before .before .before)) (c .before .before .before .before .before .before .before .before .before .reach3 .ensures) refl refl (c .gain3 .ensures)))
+loop-again-2 c =
+    let i = c .before .before .before .before .before .before .before .before .before .before .before .before .before .before .before .before .before .before .before .before .before .before .before .before .before .before .before .before .before .before in
+    let l = i .before .loop in
+    let w = i .before .before .before .before .before .before .before .before .before .before .before .args .t1 in (
+      omega (arith, i .loop-test .taken),
+      walks-on (w .shape .height) (w .shape .distance) _ _ _ (l .inv .1) (c .before .before .before .before .before .before .before .before .before .before .before .before .before .before .before .before .before .before .before .before .before .before .before .before .before .before .before .before .before .next-place .ensures),
+      grows w (l .v) _ (l .inv .2) _ (node-by w _ _ _ _ (placed i) refl (c .before .before .before .before .before .before .before .before .before .before .before .before .cut-down .ensures)) (in-nodes i) _ _ _ (in-growth i)
+          (slot-by w _ 0 _ (3 * l .count) _ _ _ _ _ _ (omega arith) (omega arith) named-east (i .before .before .before .before .before .before .before .before .present .ensures) (placed i) (c .before .before .before .before .before .before .before .before .before .before .before .reach .ensures) refl refl (c .before .before .before .before .before .before .gain .ensures))
+          (slot-by w _ 1 _ (3 * l .count + 1) _ _ _ _ _ _ (omega arith) (omega arith) named-south (i .before .before .before .before .before .before .before .before .present .ensures) (placed i) (c .before .before .before .before .before .before .before .before .before .before .reach2 .ensures) refl refl (c .before .before .before .gain2 .ensures))
+          (slot-by w _ 2 _ (3 * l .count + 2) _ _ _ _ _ _ (omega arith) (omega arith) named-up (i .before .before .before .before .before .before .before .before .present .ensures) (placed i) (c .before .before .before .before .before .before .before .before .before .reach3 .ensures) refl refl (c .gain3 .ensures)),
+    )
 
 returns : tie.Need-returns Inv-loop μ-loop
-returns c = ends (c .before .before .before .before .before .before .before .before .before .before .args .t1) _ _ (omega (arith, c .before .loop .inv .0, c .loop-test .left, c .before .before .before .before .before .before .before .before .nodes .ensures)) (c .before .loop .inv .2)
+returns c = ends (c .before .before .before .before .before .before .before .before .before .before .before .args .t1) _ _ (omega (arith, c .before .loop .inv .0, c .loop-test .left, c .before .before .before .before .before .before .before .before .before .nodes .ensures)) (c .before .loop .inv .2)
 
 pub grow-spec : {M : Type 1} → statement M
 grow-spec =
@@ -262,6 +289,7 @@ grow-spec =
     Inv-loop
     μ-loop
     nodes-requires
+    present-requires
     cast-row
     add-row
     cast-sheet

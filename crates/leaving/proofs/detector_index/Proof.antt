@@ -6,7 +6,7 @@ use borrow.Author.Needs.{needs}
 use Rattle.shape.specs.Nodes.{indexOf}
 use Rattle.shape.specs.Ranges.{ranged}
 use Rattle.window.specs.Round.{detectorAt}
-use Rattle.leaving.specs.LawsBottom.{width, detector-row, detector-column}
+use Rattle.window.specs.LawsRound.{width, detector-row, detector-column}
 use Rattle.leaving.proofs.detector_index.Statement.{statement}
 use Rattle.leaving.proofs.detector_index.Tie as tie
 

@@ -7,9 +7,11 @@ use borrow.Author.Needs.{needs}
 use borrow.Author.Tests.{not-true}
 use lib.ListN.{length, length-map, getD, replicate}
 use Rattle.shape.specs.Choice.{whether}
+use Rattle.shape.specs.Sizes.{sheetsOf}
 use Rattle.steps.specs.Steps.{base}
 use Rattle.window.specs.Lists.{over, any}
 use Rattle.window.specs.LawsLists.{over-none, over-next, over-three, any-none, any-next}
+use Rattle.window.specs.LawsPresent.{supplied-le}
 use Rattle.window.specs.Window.{size, at}
 use Rattle.window.specs.declared.Seen.{Seen}
 use Rattle.window.specs.declared.Stepped.{Stepped}
@@ -23,41 +25,45 @@ use Rattle.merge.proofs.merge.Statement.{statement}
 use Rattle.merge.proofs.merge.Tie as tie
 
 abbrev Inv-look : tie.InvT-look
-Inv-look w shape n old stirred nodes correction busy g place seen₀ k₀ seen k = (k ≤ 6) × (seen ≡ over k (seenFrom base w g) (replicate 6 nothing))
+Inv-look w shape n there old stirred nodes correction busy g place seen₀ k₀ seen k = (k ≤ 6) × (seen ≡ over k (seenFrom base w g) (replicate 6 nothing))
 
 abbrev μ-look : tie.MeasureT-look
-μ-look w shape n old stirred nodes correction busy g place seen₀ k₀ seen k = 6 - k
+μ-look w shape n there old stirred nodes correction busy g place seen₀ k₀ seen k = 6 - k
 
 abbrev Inv-nodes : tie.InvT-nodes
-Inv-nodes w shape n old stirred nodes₀ correction₀ busy₀ g₀ nodes correction busy g =
+Inv-nodes w shape n there old stirred nodes₀ correction₀ busy₀ g₀ nodes correction busy g =
     (g ≤ n)
     × (nodes ≡ over g (λ i. stepAt base w i .node) (w .nodes))
     × (busy ≡ any g (λ i. stepAt base w i .busy))
     × (correction ≡ over (3 * g) (flippedSlot base w) (w .correction))
 
 abbrev μ-nodes : tie.MeasureT-nodes
-μ-nodes w shape n old stirred nodes₀ correction₀ busy₀ g₀ nodes correction busy g = n - g
+μ-nodes w shape n there old stirred nodes₀ correction₀ busy₀ g₀ nodes correction busy g = n - g
 
 -- THE FACTS OF A TURN
 
-counted : (c : tie.In-nodes Inv-look μ-look Inv-nodes μ-nodes) → c .before .nodes .g < size (c .before .before .before .before .before .before .before .before .before .args .t1)
-counted c = subst (λ (n : ℕ). c .before .nodes .g < n) (c .before .before .before .before .before .before .before .nodes2 .ensures) (c .nodes-test .taken)
+counted : (c : tie.In-nodes Inv-look μ-look Inv-nodes μ-nodes) → c .before .nodes .g < size (c .before .before .before .before .before .before .before .before .before .before .args .t1)
+counted c = subst (λ (n : ℕ). c .before .nodes .g < n) (c .before .before .before .before .before .before .before .before .nodes2 .ensures) (c .nodes-test .taken)
 
 low : (c : tie.In-nodes Inv-look μ-look Inv-nodes μ-nodes) → c .before .nodes .g < 3600
-low c = omega (arith, counted c, nodes-max (c .before .before .before .before .before .before .before .before .before .args .t1 .shape .height) (c .before .before .before .before .before .before .before .before .before .args .t1 .shape .distance))
+low c = omega (arith, counted c, nodes-max (c .before .before .before .before .before .before .before .before .before .before .args .t1 .shape .height) (c .before .before .before .before .before .before .before .before .before .before .args .t1 .shape .distance))
 
 -- a node that is passed by was marked by none
 unstirred : (c : tie.In-nodes Inv-look μ-look Inv-nodes μ-nodes) → not (getD (c .before .before .before .stirred-nodes .result) (c .before .nodes .g + 240) false) ≡ true
-    → getD (stirredBy (c .before .before .before .before .before .before .before .before .before .args .t1 .shape .distance + 1) (c .before .before .before .before .before .before .before .before .before .args .t1 .shape .height * (c .before .before .before .before .before .before .before .before .before .args .t1 .shape .distance + 1)) (c .before .before .before .before .before .before .before .before .before .args .t1 .nodes) (c .before .before .before .before .before .before .before .before .before .args .t1 .growth) (size (c .before .before .before .before .before .before .before .before .before .args .t1))) (c .before .nodes .g + 240) false ≡ false
+    → getD (stirredBy (c .before .before .before .before .before .before .before .before .before .before .args .t1 .shape .distance + 1) (c .before .before .before .before .before .before .before .before .before .before .args .t1 .shape .height * (c .before .before .before .before .before .before .before .before .before .before .args .t1 .shape .distance + 1)) (c .before .before .before .before .before .before .before .before .before .before .args .t1 .nodes) (c .before .before .before .before .before .before .before .before .before .before .args .t1 .growth) (size (c .before .before .before .before .before .before .before .before .before .before .args .t1))) (c .before .nodes .g + 240) false ≡ false
 unstirred c e =
-    subst (λ (n : ℕ). getD (stirredBy (c .before .before .before .before .before .before .before .before .before .args .t1 .shape .distance + 1) (c .before .before .before .before .before .before .before .before .before .args .t1 .shape .height * (c .before .before .before .before .before .before .before .before .before .args .t1 .shape .distance + 1)) (c .before .before .before .before .before .before .before .before .before .args .t1 .nodes) (c .before .before .before .before .before .before .before .before .before .args .t1 .growth) n) (c .before .nodes .g + 240) false ≡ false) (c .before .before .before .before .before .before .before .nodes2 .ensures)
+    subst (λ (n : ℕ). getD (stirredBy (c .before .before .before .before .before .before .before .before .before .before .args .t1 .shape .distance + 1) (c .before .before .before .before .before .before .before .before .before .before .args .t1 .shape .height * (c .before .before .before .before .before .before .before .before .before .before .args .t1 .shape .distance + 1)) (c .before .before .before .before .before .before .before .before .before .before .args .t1 .nodes) (c .before .before .before .before .before .before .before .before .before .before .args .t1 .growth) n) (c .before .nodes .g + 240) false ≡ false) (c .before .before .before .before .before .before .before .before .nodes2 .ensures)
     (rw (c .before .before .before .stirred-nodes .ensures) at (not-true (getD (c .before .before .before .stirred-nodes .result) (c .before .nodes .g + 240) false) e))
 
-turn : (c : tie.After-place-at Inv-look μ-look Inv-nodes μ-nodes) → Stands (c .before .before .before .before .before .before .before .before .before .before .before .args .t1 .shape .height) (c .before .before .before .before .before .before .before .before .before .before .before .args .t1 .shape .distance) (c .place-at .result) (c .before .before .before .nodes .g)
-turn c = stands-at _ _ _ _ _ (c .before .before .before .before .before .before .before .before .before .nodes2 .ensures) (c .before .before .nodes-test .taken) (λ h1. c .place-at .ensures)
+turn : (c : tie.After-place-at Inv-look μ-look Inv-nodes μ-nodes) → Stands (c .before .before .before .before .before .before .before .before .before .before .before .before .args .t1 .shape .height) (c .before .before .before .before .before .before .before .before .before .before .before .before .args .t1 .shape .distance) (c .place-at .result) (c .before .before .before .nodes .g)
+turn c = stands-at _ _ _ _ _ (c .before .before .before .before .before .before .before .before .before .before .nodes2 .ensures) (c .before .before .nodes-test .taken) (λ h1. c .place-at .ensures)
+
+-- no more sheets are there than the window has
+few : (c : tie.In-look Inv-look μ-look Inv-nodes μ-nodes) → c .before .before .before .before .before .before .before .before .before .before .before .before .present .result ≤ sheetsOf (c .before .before .before .before .before .before .before .before .before .before .before .before .before .before .before .args .t1 .shape .distance)
+few c = let w = c .before .before .before .before .before .before .before .before .before .before .before .before .before .before .before .args .t1 in rw (c .before .before .before .before .before .before .before .before .before .before .before .before .present .ensures) (supplied-le (w .shape .distance) (w .next) (sheetsOf (w .shape .distance)))
 
 way : (c : tie.After-reach Inv-look μ-look Inv-nodes μ-nodes) → (c .reach .result .node < 3600) × (c .reach .result .slot < 10800)
-way c = ends-low _ _ _ _ _ (turn (c .before .before .before .before) .ranged) (c .reach .ensures)
+way c = ends-low _ _ _ _ _ _ (turn (c .before .before .before .before) .ranged) (few (c .before)) (c .reach .ensures)
 
 nodes-length : (c : tie.Start Inv-look μ-look Inv-nodes μ-nodes) → length (c .args .t1 .nodes) ≡ 3600
 nodes-length c = simp length-map at (c .good .0 .1 .1 .1 .1 .1 .0 .1 .0 .1)
@@ -68,8 +74,11 @@ correction-length c = simp length-map at (c .good .0 .1 .1 .1 .1 .1 .1 .1 .0 .1 
 nodes-requires : tie.Need-nodes-requires Inv-look μ-look Inv-nodes μ-nodes
 nodes-requires c κs = search needs
 
+present-requires : tie.Need-present-requires Inv-look μ-look Inv-nodes μ-nodes
+present-requires c κs = search needs
+
 stirred-nodes-requires : tie.Need-stirred-nodes-requires Inv-look μ-look Inv-nodes μ-nodes
-stirred-nodes-requires c κs = c .before .before .before .nodes2 .ensures
+stirred-nodes-requires c κs = c .before .before .before .before .nodes2 .ensures
 
 nodes-holds : tie.Need-nodes-holds Inv-look μ-look Inv-nodes μ-nodes
 nodes-holds c = (omega arith, sym (over-none _ _), sym (any-none _), sym (over-none _ _))
@@ -90,7 +99,7 @@ nodes-again : tie.Need-nodes-again Inv-look μ-look Inv-nodes μ-nodes
 nodes-again c =
     let i = c .before in
     let l = i .before .nodes in
-    let s = c .before .before .before .before .before .before .before .before .before .before in
+    let s = c .before .before .before .before .before .before .before .before .before .before .before in
     let w = s .args .t1 in
     let g = l .g in
     let m = counted i in
@@ -116,7 +125,7 @@ add-reach : tie.Need-add-reach Inv-look μ-look Inv-nodes μ-nodes
 add-reach c = search needs
 
 reach-requires : tie.Need-reach-requires Inv-look μ-look Inv-nodes μ-nodes
-reach-requires c κs = turn (c .before .before .before)
+reach-requires c κs = (turn (c .before .before .before), omega (arith, few c))
 
 mul-other : tie.Need-mul-other Inv-look μ-look Inv-nodes μ-nodes
 mul-other c = omega (arith, way c .0)
@@ -155,12 +164,12 @@ look-again : tie.Need-look-again Inv-look μ-look Inv-nodes μ-nodes
 look-again c =
     let l = c .before .before .before .before .before .before .look in
     let i = c .before .before .before .before .before .before .before .before in
-    let w = c .before .before .before .before .before .before .before .before .before .before .before .before .before .before .before .before .before .before .before .args .t1 in
+    let w = c .before .before .before .before .before .before .before .before .before .before .before .before .before .before .before .before .before .before .before .before .args .t1 in
     let g = c .before .before .before .before .before .before .before .before .before .before .before .nodes .g in
     let y = c .before .before .before .before .reach .result in
     let read : c .look2 .result ≡ sees y (getD (w .growth) (y .slot) 0) (at w (y .node)) (c .before .back .result) = c .look2 .ensures in
     let v : c .look2 .result ≡ seenFrom base w g (l .k)
-    = read ∙ seen-by w g _ (i .place-at .ensures) (l .k) _ _ (c .before .before .before .before .reach .ensures) (c .before .back .ensures) in
+    = read ∙ seen-by w g _ (i .place-at .ensures) (l .k) _ _ _ (c .before .before .before .before .before .before .before .before .before .before .before .before .before .before .before .before .before .present .ensures) (c .before .before .before .before .reach .ensures) (c .before .back .ensures) in
     (omega arith, over-next (seenFrom base w g) (replicate 6 nothing) (l .k) _ _ (omega arith) (l .inv .1) v)
 
 is-boundary-requires : tie.Need-is-boundary-requires Inv-look μ-look Inv-nodes μ-nodes
@@ -242,7 +251,7 @@ nodes-again-2 : tie.Need-nodes-again-2 Inv-look μ-look Inv-nodes μ-nodes
 nodes-again-2 c =
     let i = c .before .before .before .before .before .before .before .before .before .before .before .before .before .before .before .before .before .before .before in
     let l = i .before .nodes in
-    let s = c .before .before .before .before .before .before .before .before .before .before .before .before .before .before .before .before .before .before .before .before .before .before .before .before .before .before .before .before in
+    let s = c .before .before .before .before .before .before .before .before .before .before .before .before .before .before .before .before .before .before .before .before .before .before .before .before .before .before .before .before .before in
     let w = s .args .t1 in
     let g = l .g in
     let k = c .before .before .before .before .before .before .before .before .before .before .before .before .before .before .before .look in
@@ -273,8 +282,8 @@ stage-after-requires c κs = search needs
 returns : tie.Need-returns Inv-look μ-look Inv-nodes μ-nodes
 returns c =
     let l = c .before .before .before .before .nodes in
-    let w = c .before .before .before .before .before .before .before .before .before .before .before .before .args .t1 in
-    let e : l .g ≡ size w = omega (arith, l .inv .0, c .before .before .before .nodes-test .left, c .before .before .before .before .before .before .before .before .before .before .nodes2 .ensures) in
+    let w = c .before .before .before .before .before .before .before .before .before .before .before .before .before .args .t1 in
+    let e : l .g ≡ size w = omega (arith, l .inv .0, c .before .before .before .nodes-test .left, c .before .before .before .before .before .before .before .before .before .before .before .nodes2 .ensures) in
     merged-by w (l .g) _ _ _ _ e (c .stage-after .ensures) (l .inv .2) (l .inv .1) (l .inv .3)
 
 pub merge-spec : {M : Type 1} → statement M
@@ -286,6 +295,7 @@ merge-spec =
     Inv-nodes
     μ-nodes
     nodes-requires
+    present-requires
     stirred-nodes-requires
     nodes-holds
     add-if1

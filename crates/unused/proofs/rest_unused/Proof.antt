@@ -1,31 +1,17 @@
 -- `unused::rest_unused` meets its contract. Assumes nothing.
-use mathlib.Core.Path.{_≡_, refl, _∙_, ap}
-use mathlib.Core.Bool.{Bool, false, _&&_, not}
-use Prim.Native.Nat.{ℕ, _≤_, _-_}
+use mathlib.Core.Path.{_≡_, refl, _∙_}
+use Prim.Native.Nat.{_≤_, _-_}
 use native.Mathlib.Omega.{arith}
 use borrow.Author.Needs.{needs}
 use borrow.Author.Tests.{not-true, not-false}
-use lib.Dec.{eqb}
 use lib.ListN.{drop, getD, length-map}
-use Rattle.window.specs.declared.Mark.the-variants.{Reset, Root}
-use Rattle.window.specs.declared.Node.{Node}
 use Rattle.window.specs.Lists.{all}
-use Rattle.window.specs.LawsLists.{and-no}
-use Rattle.window.specs.Formed.{isZero, unusedNode}
+use Rattle.window.specs.Formed.{unusedNode}
+use Rattle.window.specs.LawsFormed.{fresh-reset, fresh-root}
 use Rattle.window.specs.Window.{beyond}
 use Rattle.unused.proofs.rest_unused.Statement.{statement}
 use Rattle.unused.proofs.rest_unused.Tie as tie
 use Rattle.unused.proofs.Behind.{fails, passes, ends}
-
--- what is tested of a node besides its mark
-abbrev clear : Node → Bool
-clear n = not (n .active) && not (n .defect) && not (n .unrooted) && eqb (n .pointer) 0
-
-is-reset : (n : Node) → n .mark ≡ Reset → unusedNode n ≡ false
-is-reset n e = and-no (clear n) (isZero (n .mark)) (ap isZero e)
-
-is-root : (n : Node) (m : ℕ) → n .mark ≡ Root m → unusedNode n ≡ clear n && eqb m 0
-is-root n m e = ap (λ (x : Bool). clear n && x) (ap isZero e)
 
 abbrev Inv-loop : tie.InvT-loop
 Inv-loop n w g₀ g = (g ≤ 3600) × (all unusedNode (drop g (w .nodes)) ≡ all unusedNode (drop n (w .nodes)))
@@ -52,13 +38,13 @@ returns : tie.Need-returns Inv-loop μ-loop
 returns c = let s = c .before .before .before .before .before in let l = c .before .before .before .before .loop in
     fails unusedNode (s .args .t1 .nodes) (s .args .n) (l .g) (l .inv .1) beyond
     (omega (arith, c .before .before .before .loop-test .taken, simp length-map at (s .good .0 .1 .1 .1 .1 .1 .0 .1 .0 .1)))
-    (is-reset (getD (s .args .t1 .nodes) (l .g) beyond) (c .enum-told .given .1))
+    (fresh-reset 0 (getD (s .args .t1 .nodes) (l .g) beyond) (c .enum-told .given .1))
 
 returns-2 : tie.Need-returns-2 Inv-loop μ-loop
 returns-2 c = let s = c .before .before .before .before .before .before .before .before .before .before .before in let l = c .before .before .before .before .before .before .before .before .before .before .loop in
     fails unusedNode (s .args .t1 .nodes) (s .args .n) (l .g) (l .inv .1) beyond
     (omega (arith, c .before .before .before .before .before .before .before .before .before .loop-test .taken, simp length-map at (s .good .0 .1 .1 .1 .1 .1 .0 .1 .0 .1)))
-    (is-root (getD (s .args .t1 .nodes) (l .g) beyond) _ (c .before .before .before .before .before .before .mark .given .1) ∙ not-true _ (c .if1 .taken))
+    (fresh-root 0 (getD (s .args .t1 .nodes) (l .g) beyond) _ (c .before .before .before .before .before .before .mark .given .1) ∙ not-true _ (c .if1 .taken))
 
 add-g : tie.Need-add-g Inv-loop μ-loop
 add-g c = search needs
@@ -71,7 +57,7 @@ loop-again c = let s = c .before .before .before .before .before .before .before
   omega arith,
   passes unusedNode (s .args .t1 .nodes) (s .args .n) (l .g) (l .inv .1) beyond
       (omega (arith, c .before .before .before .before .before .before .before .before .before .loop-test .taken, simp length-map at (s .good .0 .1 .1 .1 .1 .1 .0 .1 .0 .1)))
-      (is-root (getD (s .args .t1 .nodes) (l .g) beyond) _ (c .before .before .before .before .before .before .mark .given .1) ∙ not-false _ (c .if1 .left)),
+      (fresh-root 0 (getD (s .args .t1 .nodes) (l .g) beyond) _ (c .before .before .before .before .before .before .mark .given .1) ∙ not-false _ (c .if1 .left)),
 )
 
 returns-3 : tie.Need-returns-3 Inv-loop μ-loop

@@ -4,7 +4,7 @@ use native.Mathlib.Omega.{arith}
 use borrow.Author.Needs.{needs}
 use Rattle.walk.proofs.down.Statement.{statement}
 use Rattle.walk.proofs.down.Tie as tie
-use Rattle.walk.specs.Ways.{down-none, down-low, down-way, no-test-to, a-test-to}
+use Rattle.walk.specs.Ways.{down-none, down-low, down-way, no-test, a-test}
 
 inner-requires : tie.Need-inner-requires
 inner-requires c κs = search needs
@@ -15,14 +15,11 @@ cast-if1 c = search needs
 add-if1 : tie.Need-add-if1
 add-if1 c = search needs
 
-sheets-requires : tie.Need-sheets-requires
-sheets-requires c κs = search needs
-
 no-edge-requires : tie.Need-no-edge-requires
 no-edge-requires c κs = search needs
 
 returns : tie.Need-returns
-returns c = c .no-edge .ensures ∙ down-none _ _ _ _ (c .before .before .before .before .before .pre) (no-test-to _ _ _ _ _ (c .before .before .before .before .inner .ensures) (c .before .before .sheets .ensures) (c .before .if1 .taken))
+returns c = c .no-edge .ensures ∙ down-none _ _ _ _ (c .before .before .before .before .pre .0) _ (no-test _ _ _ (c .before .before .before .inner .ensures) (c .before .if1 .taken))
 
 cast-to : tie.Need-cast-to
 cast-to c = search needs
@@ -34,16 +31,16 @@ add-to : tie.Need-add-to
 add-to c = search needs
 
 mul-to : tie.Need-mul-to
-mul-to c = omega (arith, down-low _ _ _ _ (c .before .before .before .before .before .before .pre) (a-test-to _ _ _ _ _ (c .before .before .before .before .before .inner .ensures) (c .before .before .before .sheets .ensures) (c .before .before .if1 .left)))
+mul-to c = omega (arith, down-low _ _ _ _ (c .before .before .before .before .before .pre .0) _ (a-test _ _ _ (c .before .before .before .before .inner .ensures) (c .before .before .if1 .left)) (c .before .before .before .before .before .pre .1))
 
 add-to-2 : tie.Need-add-to-2
-add-to-2 c = omega (arith, down-low _ _ _ _ (c .before .before .before .before .before .before .pre) (a-test-to _ _ _ _ _ (c .before .before .before .before .before .inner .ensures) (c .before .before .before .sheets .ensures) (c .before .before .if1 .left)))
+add-to-2 c = omega (arith, down-low _ _ _ _ (c .before .before .before .before .before .pre .0) _ (a-test _ _ _ (c .before .before .before .before .inner .ensures) (c .before .before .if1 .left)) (c .before .before .before .before .before .pre .1))
 
 over-requires : tie.Need-over-requires
-over-requires c κs = (down-low _ _ _ _ (c .before .before .before .before .before .before .pre) (a-test-to _ _ _ _ _ (c .before .before .before .before .before .inner .ensures) (c .before .before .before .sheets .ensures) (c .before .before .if1 .left)), omega arith)
+over-requires c κs = (down-low _ _ _ _ (c .before .before .before .before .before .pre .0) _ (a-test _ _ _ (c .before .before .before .before .inner .ensures) (c .before .before .if1 .left)) (c .before .before .before .before .before .pre .1), omega arith)
 
 returns-2 : tie.Need-returns-2
-returns-2 c = c .over .ensures ∙ down-way _ _ _ _ (c .before .before .before .before .before .before .before .pre) (a-test-to _ _ _ _ _ (c .before .before .before .before .before .before .inner .ensures) (c .before .before .before .before .sheets .ensures) (c .before .before .before .if1 .left))
+returns-2 c = c .over .ensures ∙ down-way _ _ _ _ (c .before .before .before .before .before .before .pre .0) _ (a-test _ _ _ (c .before .before .before .before .before .inner .ensures) (c .before .before .before .if1 .left))
 
 pub down-spec : {M : Type 1} → statement M
 down-spec =
@@ -52,7 +49,6 @@ down-spec =
     inner-requires
     cast-if1
     add-if1
-    sheets-requires
     no-edge-requires
     returns
     cast-to

@@ -11,7 +11,7 @@ no-edge-requires : tie.Need-no-edge-requires
 no-edge-requires c κs = search needs
 
 returns : tie.Need-returns
-returns c = c .no-edge .ensures ∙ east-none _ _ _ _ (c .before .before .before .before .pre) (c .before .if1 .taken)
+returns c = λ k t. c .no-edge .ensures ∙ east-none _ _ _ _ (c .before .before .before .before .pre) k (c .before .if1 .taken)
 
 add-over : tie.Need-add-over
 add-over c = omega (arith, stands-low _ _ _ _ (c .before .before .before .pre))
@@ -23,7 +23,7 @@ over-requires : tie.Need-over-requires
 over-requires c κs = (omega (arith, stands-low _ _ _ _ (c .before .before .before .before .before .pre)), omega arith)
 
 returns-2 : tie.Need-returns-2
-returns-2 c = c .over .ensures ∙ east-way _ _ _ _ (c .before .before .before .before .before .before .pre) (less _ _ (c .before .before .before .before .before .before .pre .inside .column) (c .before .before .before .if1 .left))
+returns-2 c = λ k t. c .over .ensures ∙ east-way _ _ _ _ (c .before .before .before .before .before .before .pre) (less _ _ (c .before .before .before .before .before .before .pre .inside .column) (c .before .before .before .if1 .left)) k t
 
 pub east-spec : {M : Type 1} → statement M
 east-spec =

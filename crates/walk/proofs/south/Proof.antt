@@ -17,7 +17,7 @@ no-edge-requires : tie.Need-no-edge-requires
 no-edge-requires c κs = search needs
 
 returns : tie.Need-returns
-returns c = c .no-edge .ensures ∙ south-none _ _ _ _ (c .before .before .before .before .before .pre) (no-test _ _ _ (c .before .before .before .before .inner .ensures) (c .before .if1 .taken))
+returns c = λ k t. c .no-edge .ensures ∙ south-none _ _ _ _ (c .before .before .before .before .before .pre) k (no-test _ _ _ (c .before .before .before .before .inner .ensures) (c .before .if1 .taken))
 
 cast-over : tie.Need-cast-over
 cast-over c = search needs
@@ -32,7 +32,7 @@ over-requires : tie.Need-over-requires
 over-requires c κs = (omega (arith, stands-low _ _ _ _ (c .before .before .before .before .before .pre)), omega arith)
 
 returns-2 : tie.Need-returns-2
-returns-2 c = c .over .ensures ∙ south-way _ _ _ _ (c .before .before .before .before .before .before .pre) (a-test _ _ _ (c .before .before .before .before .before .inner .ensures) (c .before .before .if1 .left))
+returns-2 c = λ k t. c .over .ensures ∙ south-way _ _ _ _ (c .before .before .before .before .before .before .pre) (a-test _ _ _ (c .before .before .before .before .before .inner .ensures) (c .before .before .if1 .left)) k t
 
 pub south-spec : {M : Type 1} → statement M
 south-spec =
