@@ -54,9 +54,10 @@ pub fn shapes() -> Vec<(u32, u32, Shape)> {
 /// defect, at the last detector, and two empty rounds.
 pub fn each_start(seed: u64, mut run: impl FnMut(Shape, &[u8], bool)) {
     let shapes = shapes();
-    each_case(seed, 3 * shapes.len(), |case, random| {
+    each_case(seed, 2 * shapes.len(), |case, random| {
         let (_, _, shape) = shapes[case % shapes.len()];
-        let (chance, lone) = [(1_000, true), (10_000, false), (50_000, false)][case / shapes.len()];
+        let lone = case < shapes.len();
+        let chance = if lone { 1_000 } else { random.pick(&[10_000, 50_000]) };
         let (rounds, start) = if lone {
             (3, [vec![1], number_bytes(shape.detectors() as u32 - 1), vec![0, 0]].concat())
         } else {

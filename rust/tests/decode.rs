@@ -94,9 +94,10 @@ fn the_first_rounds_of_every_shape() {
     each_start(0x6669_7273, |shape, input, lone| {
         let (sheets, first) = (shape.sheets(), decoded(input, 9));
         assert_eq!((first.status, first.rounds()), (DECODED, 3 * sheets));
-        let later = dense::decode(&[&input[..2], &vec![0; sheets], &input[2..]].concat());
-        let differs = first.result[2..] != later.result[later.ends[sheets]..];
-        assert!(differs || !lone || shape.distance < 4, "{shape:?}: the steps at the start");
+        if lone && shape.distance > 3 {
+            let later = dense::decode(&[&input[..2], &vec![0; sheets], &input[2..]].concat());
+            assert!(first.result[2..] != later.result[later.ends[sheets]..], "{shape:?}: the steps at the start");
+        }
         note(&mut covered, shape, &first);
     });
     assert_eq!(covered.shapes(), [210; 2]);

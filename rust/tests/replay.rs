@@ -121,7 +121,7 @@ fn part(start: &str) -> Vec<&'static str> {
     lines
 }
 
-/// The lines begin with so many edits, each of them refused 21 by every call and taken back.
+/// The lines begin with so many edits, each of them refused 21 by a round call, grow, merging and run, and taken back.
 fn expect_faults(lines: &[&str], edits: usize) {
     let tried: Vec<_> = lines.chunks_exact(6).take(edits).map(|lines| answers(lines.iter().copied())).collect();
     assert_eq!(tried.len(), edits);

@@ -20,7 +20,7 @@ use Rattle.window.specs.Lists.{bit}
 use Rattle.window.specs.LawsLists.{and-not}
 use Rattle.window.specs.Window.{namer}
 use Rattle.closure.specs.Suited.{Suited}
-use Rattle.law.specs.Law.{Receipt, Played, NothingLeft, noReceipt, Spot, ends, sum, height, distance, sheets, last, receipt, received, committed, escaped, inWindow, standing, Detector, pending, ending, Conserved}
+use Rattle.law.specs.Law.{Receipt, Played, NothingLeft, AbsentEmpty, noReceipt, Spot, ends, sum, height, distance, sheets, last, receipt, received, committed, escaped, inWindow, standing, Detector, pending, ending, Conserved}
 use Rattle.law.specs.Layered.{Layered}
 use Rattle.law.specs.Bits.{refuted}
 use Rattle.law.specs.Spots.{ends-at, window-in, not-in-window}
@@ -105,7 +105,7 @@ module _ (T : Table) (p : Played) (sh : Shape) (rounds : List (List ℕ)) (resul
       ∙ ap₂ (λ (n : ℕ) (b : Bool). (n + ending T p (pending T p) a + bit (standing p a) + bit b) % 2) (ending-is a) (escaped-is a)
 
   -- absent rounds: what their receipts have
-  pub none-absent : ((n : ℕ) → n < sheets p → NothingLeft (receipt p n)) → (n : ℕ) → n < sheetsOf (sh .distance) → (i : ℕ)
+  pub none-absent : AbsentEmpty p → (n : ℕ) → n < sheetsOf (sh .distance) → (i : ℕ)
       → (getD (getD results n noResult .edges) i 0 ≡ 0) × (getD (getD results n noResult .escapes) i 0 ≡ 0)
   none-absent a n l = subst NothingLeft (receipt-at n) (a n (subst (λ (x : Shape). n < sheetsOf (x .distance)) (sym shape) l))
 

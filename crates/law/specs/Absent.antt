@@ -28,7 +28,7 @@ use Rattle.closure.specs.Lists.{choice}
 use Rattle.closure.specs.Edges.{edge-absent}
 use Rattle.closure.specs.Facts.{Facts, index-within}
 use Rattle.closure.specs.Suited.{Suited}
-use Rattle.law.specs.Law.{Played, NothingLeft, sheets, last, receipt}
+use Rattle.law.specs.Law.{Played, NothingLeft, AbsentEmpty, last, receipt}
 use Rattle.law.specs.Rules.{taken}
 use Rattle.law.specs.Nodes.{defects as same-defects}
 use Rattle.law.specs.Receipts.{old-receipt, new-receipt, no-receipt, counts}
@@ -96,7 +96,7 @@ module _ (T : Table) (S : Suited T) (L : Layered T) (p : Played) (defects : List
   abbrev count : ℕ
   count = length (p .receipts)
 
-  pub absent-after : ((n : ℕ) → n < sheets p → NothingLeft (receipt p n)) → (n : ℕ) → n < sheets p → NothingLeft (receipt after n)
+  pub absent-after : AbsentEmpty p → AbsentEmpty after
   unfolding rounded
   absent-after before n l =
       ⊎-elim (λ m. subst NothingLeft (sym (old-receipt T p defects n m)) (before n l))

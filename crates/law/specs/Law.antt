@@ -140,6 +140,10 @@ module _ (p : Played) where
   abbrev pub receipt : ℕ → Receipt
   receipt i = getD (p .receipts) i noReceipt
 
+  -- rounds 0 to b are absent: nothing left with them
+  abbrev pub AbsentEmpty : Type 0
+  AbsentEmpty = (n : ℕ) → n < sheets → NothingLeft (receipt n)
+
   -- depth k is round last - k: the rounds that are in the window
   abbrev pub inWindow : ℕ → Bool
   inWindow n = leb n last && ltb (last - n) sheets
@@ -247,7 +251,7 @@ pub record Law (T : Table) (fresh : Window) (p : Played) : Type 0 where
   -- no defect is lost
   pub conserved : Conserved T p
   -- nothing leaves with an absent round
-  pub absent : (n : ℕ) → n < sheets p → NothingLeft (receipt p n)
+  pub absent : AbsentEmpty p
   -- whenever the list leaves the window at rest
   pub rested : isRest (p .window .stage) ≡ true → Rested T (p .window)
   -- the shape is the fresh window's, and depth k holds round next - 1 - k

@@ -1,5 +1,5 @@
 -- DEMAND 3 HOLDS: the law after every list of calls. Assumes nothing.
-use Prim.Native.Nat.{ℕ, _+_, _<_}
+use Prim.Native.Nat.{_+_}
 use native.Mathlib.Omega.{arith}
 use mathlib.Core.Path.{_≡_, refl, sym, subst}
 use mathlib.Core.List.{List}
@@ -18,7 +18,7 @@ use Rattle.closure.specs.Suited.{Suited, suited-base}
 use Rattle.closure.specs.Done.{started}
 use Rattle.closure.specs.Facts.{facts}
 use Rattle.closure.specs.Closure.{kept-fresh}
-use Rattle.law.specs.Law.{Played, Call, NothingLeft, Law, Demand3, play, start, sheets, last, receipt}
+use Rattle.law.specs.Law.{Played, Call, AbsentEmpty, Law, Demand3, play, start, last}
 use Rattle.law.specs.Everywhere.{Conserved, of-supplied}
 use Rattle.law.specs.Rules.{Invariant}
 use Rattle.law.specs.Play.{playing}
@@ -33,7 +33,7 @@ use Rattle.law.specs.Absent.{absent-after}
 record Counted (sh : Shape) (p : Played) : Type 0 where
   shape : p .window .shape ≡ sh
   next : p .window .next ≡ last p + 1
-  absent : (n : ℕ) → n < sheets p → NothingLeft (receipt p n)
+  absent : AbsentEmpty p
 
 counted-fresh : (sh : Shape) → Counted sh (start (freshWindow sh))
 unfolding freshWindow

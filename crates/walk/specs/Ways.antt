@@ -187,7 +187,7 @@ module _ (h d : ℕ) (q : Place) (g : ℕ) (s : Stands h d q g) where
     upper-row : q .row + 1 < h
     upper-row = ltb-true (q .row + 1) h (inner-test (boundary d (q .column)) (ltb (q .row + 1) h) e .1)
 
-    pub south-index : g + (d + 1) ≡ indexOf h d (across (step base 4) q)
+    south-index : g + (d + 1) ≡ indexOf h d (across (step base 4) q)
     unfolding base across indexOf
     south-index =
         let a : q .depth + 0 - 0 ≡ q .depth = omega arith in
@@ -354,7 +354,7 @@ module _ (h d : ℕ) (q : Place) (g : ℕ) (s : Stands h d q g) where
   east-none k e = no-way base h d k 3 q (no-column h d k east q (and-no (leb 0 (q .column + 1)) (ltb (q .column + 1 - 0) (d + 1)) (le-ltb (q .column + 1 - 0) (d + 1) (omega arith))))
 
   module _ (l : q .column < d) where
-    pub east-index : g + 1 ≡ indexOf h d (across (step base 3) q)
+    east-index : g + 1 ≡ indexOf h d (across (step base 3) q)
     unfolding base across indexOf
     east-index =
         let a : q .depth + 0 - 0 ≡ q .depth = omega arith in
