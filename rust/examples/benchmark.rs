@@ -2,6 +2,7 @@
 //! Times are for whole streams, from bytes to bytes, with the buffers made before.
 
 use baizeridge_tests::decoding::{Decoded, DECODED};
+use baizeridge_tests::image::{DETECTORS, NODES, SLOTS};
 use baizeridge_tests::noise::{stream, Noise};
 use baizeridge_tests::random::Random;
 use baizeridge_tests::streams::Shape;
@@ -66,10 +67,10 @@ fn race(input: &[u8], decoded: &Decoded) -> [Duration; 3] {
 struct Window {
     next: u32,
     shape_and_stage: [u8; 4],
-    nodes: [[u16; 4]; 3_600],
-    growth: [u8; 10_800],
-    correction: [u8; 10_800],
-    measured: [u8; 210],
+    nodes: [[u16; 4]; NODES],
+    growth: [u8; SLOTS],
+    correction: [u8; SLOTS],
+    measured: [u8; DETECTORS],
 }
 
 fn moving() -> Duration {
@@ -77,10 +78,10 @@ fn moving() -> Duration {
     let from = Box::new(Window {
         next: 0,
         shape_and_stage: [0; 4],
-        nodes: [[0; 4]; 3_600],
-        growth: [0; 10_800],
-        correction: [0; 10_800],
-        measured: [0; 210],
+        nodes: [[0; 4]; NODES],
+        growth: [0; SLOTS],
+        correction: [0; SLOTS],
+        measured: [0; DETECTORS],
     });
     let mut to = from.clone();
     let run = |_| {

@@ -2,6 +2,7 @@
 
 use crate::decoder::{Edge, Layer, Node, Sheet, Stage, Way, Window};
 use crate::decoding::Ran;
+use crate::streams::LARGEST;
 
 /// An entry for a node. Pointers are 0 for C and 1 to 6 in the scan order; no mark is reset.
 #[derive(Debug, Clone, Copy, PartialEq, Eq)]
@@ -14,10 +15,11 @@ pub struct Entry {
 }
 
 const UNUSED: Entry = Entry { active: false, defect: false, unrooted: false, pointer: 0, mark: Some(0) };
-const NODES: usize = 3_600;
-const SLOTS: usize = 10_800;
+pub const NODES: usize = LARGEST.height * (LARGEST.distance + 1) * LARGEST.sheets();
+/// Entries of growth, and of correction.
+pub const SLOTS: usize = 3 * NODES;
 /// Bits of the last measured sheet.
-pub const DETECTORS: usize = 210;
+pub const DETECTORS: usize = LARGEST.detectors();
 const WAYS: [Way; 6] = [Way::North, Way::West, Way::East, Way::South, Way::Down, Way::Up];
 
 #[derive(Debug, Clone, PartialEq, Eq)]

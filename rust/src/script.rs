@@ -394,7 +394,7 @@ impl Script {
             .unzip();
         match random.below(9) {
             0..=2 => {
-                let slot = if wild { random.below(10_800) } else { random.pick(&slots) };
+                let slot = if wild { random.below(image::SLOTS) } else { random.pick(&slots) };
                 self.add(format!("halves {slot} {}", random.pick(&[0, 1, 2, 2, 2])));
             }
             3 => {

@@ -23,6 +23,9 @@ pub type Answer<T> = Result<Done<T>, Stop>;
 pub const HEIGHTS: RangeInclusive<u32> = 1..=15;
 pub const DISTANCES: RangeInclusive<u32> = 2..=15;
 
+/// The shape that every array of a window is made for.
+pub const LARGEST: Shape = Shape { height: *HEIGHTS.end() as usize, distance: *DISTANCES.end() as usize };
+
 /// A height and a distance in range.
 #[derive(Debug, Clone, Copy)]
 pub struct Shape {
@@ -38,17 +41,17 @@ impl Shape {
     }
 
     /// Sheets of a window.
-    pub fn sheets(self) -> usize {
+    pub const fn sheets(self) -> usize {
         2 * (self.distance / 2) + 1
     }
 
     /// Detectors of a sheet.
-    pub fn detectors(self) -> usize {
+    pub const fn detectors(self) -> usize {
         self.height * (self.distance - 1)
     }
 
     /// Edges of a layer: along the rows, along the columns, to the sheet above.
-    pub fn edges(self) -> usize {
+    pub const fn edges(self) -> usize {
         self.height * self.distance + (self.height - 1) * (self.distance - 1) + self.detectors()
     }
 }

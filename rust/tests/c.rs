@@ -3,7 +3,7 @@
 use baizeridge_tests::noise::{stream, Noise};
 use baizeridge_tests::random::Random;
 use baizeridge_tests::repository::{root, text};
-use baizeridge_tests::streams::{Done, Shape, Stop};
+use baizeridge_tests::streams::{Done, Stop, LARGEST};
 use baizeridge_tests::{decoder, proved};
 use std::collections::BTreeSet;
 use std::path::Path;
@@ -80,9 +80,8 @@ fn with_stack<R: Send + 'static>(name: &str, call: impl FnOnce() -> R + Send + '
 /// The largest shape with dense noise.
 #[test]
 fn the_stack_suffices_to_decode() {
-    let shape = Shape::new(15, 15).expect("a shape in range");
     for chance in [100_000, 500_000] {
-        let input = stream(shape, 40, Noise::Defects(chance), &mut Random::new(0x7374_6163, 0));
+        let input = stream(LARGEST, 40, Noise::Defects(chance), &mut Random::new(0x7374_6163, 0));
         let decoded = decoder::decode(&input);
         let mut out = vec![0; decoded.result.len()];
         let (answer, out) = with_stack("BAIZERIDGE_DECODE_STACK", move || (proved::decode(&input, &mut out), out));
@@ -93,24 +92,27 @@ fn the_stack_suffices_to_decode() {
 /// Every reader and writer, on the longest lists.
 #[test]
 fn the_stack_suffices_to_read_and_write() {
-    let ones = (vec![1; 210], vec![1; 631]);
+    let (detectors, layer) = (LARGEST.detectors(), LARGEST.edges());
+    let (h, d) = (LARGEST.height as u32, LARGEST.distance as u32);
+    let ones = (vec![1; detectors], vec![1; layer]);
     let ran = with_stack("BAIZERIDGE_STACK", move || {
         let (defects, edges) = ones;
-        let mut out = vec![0; 2_000];
-        let (mut to_defects, mut to_edges) = (vec![0; 210], vec![0; 631]);
-        let Done((), header) = proved::write_header(15, 15, &mut out, 0)?;
+        // A list has at most two bytes for each of its entries, and a few more.
+        let mut out = vec![0; 3 * (detectors + layer)];
+        let (mut to_defects, mut to_edges) = (vec![0; detectors], vec![0; layer]);
+        let Done((), header) = proved::write_header(h, d, &mut out, 0)?;
         proved::read_header(&out, 0)?;
-        let Done((), end) = proved::write_round(15, 15, &defects, &mut out, header)?;
-        proved::read_round(15, 15, &out, header, &mut to_defects)?;
+        let Done((), end) = proved::write_round(h, d, &defects, &mut out, header)?;
+        proved::read_round(h, d, &out, header, &mut to_defects)?;
         proved::scan_input(&out[..end])?;
-        let Done((), end) = proved::write_result(15, 15, [&edges, &defects], u32::MAX, &mut out, header)?;
-        proved::read_result(15, 15, &out, header, [&mut to_edges, &mut to_defects])?;
+        let Done((), end) = proved::write_result(h, d, [&edges, &defects], u32::MAX, &mut out, header)?;
+        proved::read_result(h, d, &out, header, [&mut to_edges, &mut to_defects])?;
         proved::scan_results(&out[..end])?;
         let Done((), end) = proved::write_list(&edges, &mut out, 0)?;
         proved::read_list(&out[..end], 0, &mut to_edges)?;
         proved::write_number(u32::MAX, &mut out, 0)?;
         proved::read_number(&out, 0)?;
-        proved::sizes(15, 15);
+        proved::sizes(h, d);
         Ok::<_, Stop>((to_defects == defects, to_edges == edges))
     });
     assert_eq!(ran, Ok((true, true)));

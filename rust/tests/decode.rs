@@ -58,10 +58,10 @@ fn through_the_window(seed: u64, chances: &[usize]) -> Vec<Covered> {
     levels
 }
 
-/// A received round of each of the 210 shapes left the window, and at each level this much or more.
+/// A received round of each shape left the window, and at each level this much or more.
 fn expect_all_shapes(levels: &[Covered]) {
     let all: BTreeSet<_> = levels.iter().flat_map(|covered| covered.0.keys()).collect();
-    assert_eq!(all.len(), 210);
+    assert_eq!(all.len(), shapes().len());
     for covered in levels {
         let ([shapes, _], [rounds, edges]) = (covered.shapes(), covered.sums());
         assert_eq!(shapes, covered.0.len());
@@ -100,7 +100,7 @@ fn the_first_rounds_of_every_shape() {
         }
         note(&mut covered, shape, &first);
     });
-    assert_eq!(covered.shapes(), [210; 2]);
+    assert_eq!(covered.shapes(), [shapes().len(); 2]);
 }
 
 #[test]

@@ -254,7 +254,8 @@ fn every_defect_is_accounted_for() {
     });
     for covered in [plain, raw] {
         let ([left, committing], [_, large]) = (covered.shapes(), covered.at_least(9).shapes());
-        assert!(left == 210 && committing >= 195 && large >= 100, "{left} shapes, {committing}, {large} of them large");
+        assert_eq!(left, shapes.len());
+        assert!(committing >= 195 && large >= 100, "{committing} shapes, {large} of them large");
     }
     for rounds in &answers.rounds {
         rounds.expect(20 * shapes.len(), &[DONE, 3, 4, 5, 6, 22, 23]);

@@ -32,5 +32,5 @@ fn the_first_rounds_of_every_shape() {
             committing.insert((shape.height, shape.distance));
         }
     });
-    assert_eq!(committing.len(), 210);
+    assert_eq!(committing.len(), shapes().len());
 }

@@ -1,6 +1,6 @@
 use baizeridge_tests::cases::{each_case, shapes, Faults, HEADERS, WILD};
 use baizeridge_tests::compare::{read_header, write_header};
-use baizeridge_tests::streams::{number_bytes, Done, Stop::*};
+use baizeridge_tests::streams::{number_bytes, Done, Stop::*, DISTANCES, HEIGHTS};
 use baizeridge_tests::tally::{Tally, DONE};
 
 #[test]
@@ -24,7 +24,7 @@ fn every_pair_of_bytes() {
         for second in 0..=255 {
             for at in 0..=3 {
                 let answer = read_header(&[first, second], at);
-                let accepted = at == 0 && (1..=15).contains(&first) && (2..=15).contains(&second);
+                let accepted = at == 0 && HEIGHTS.contains(&u32::from(first)) && DISTANCES.contains(&u32::from(second));
                 assert_eq!(answer.is_ok(), accepted);
             }
         }

@@ -11,6 +11,7 @@ use Rattle.refusal.specs.declared.Refusal.{Refusal}
 use Rattle.shape.specs.Ranges.{halves}
 use Rattle.shape.specs.Sizes.{inRange, detectorsOf, layerEdgesOf}
 use Rattle.steps.specs.Steps.{base}
+use Rattle.window.specs.Window.{maxNext}
 use Rattle.window.specs.Formed.{wellFormed}
 use Rattle.window.specs.Calls.{callAnswer, Round, windowOf, edgesOf, escapesOf, roundTests, roundBy}
 use Rattle.window.specs.declared.Called.{Called}
@@ -36,7 +37,7 @@ formed-ranged w e =
 pub record Asked (w : Window) (bytes edges escapes : List ℕ) : Type 0 where
   pub asked :
       (inRange (w .shape .height) (w .shape .distance) ≡ true)
-      × ((w .next < 4294967295)
+      × ((w .next < maxNext)
       × ((length bytes ≡ detectorsOf (w .shape .height) (w .shape .distance))
       × ((length edges ≡ layerEdgesOf (w .shape .height) (w .shape .distance)) × (length escapes ≡ detectorsOf (w .shape .height) (w .shape .distance)))))
 

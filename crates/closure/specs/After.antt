@@ -9,7 +9,7 @@ use borrow.Author.Tests.{lt-ltb, le-ltb}
 use lib.Dec.{ltb}
 use lib.ListN.{getD, replicate}
 use Rattle.shape.specs.Choice.{if, if-true, if-false}
-use Rattle.shape.specs.Sizes.{nodesOf}
+use Rattle.shape.specs.Sizes.{nodesOf, maxNodes}
 use Rattle.shape.specs.Nodes.{numberOf, placeAt}
 use Rattle.steps.specs.Steps.{Table, falls}
 use Rattle.shape.specs.declared.Shape.{Shape}
@@ -32,7 +32,7 @@ module _ (sh : Shape) where
 
   pub fresh-at : (g : ℕ) → g < nodesOf h d → at (freshWindow sh) g ≡ alone (numberOf h d (placeAt h d g)) false
   unfolding freshWindow
-  fresh-at g l = over-at (λ i. alone (numberOf h d (placeAt h d i)) false) (replicate 3600 unused) (nodesOf h d) g beyond l
+  fresh-at g l = over-at (λ i. alone (numberOf h d (placeAt h d i)) false) (replicate maxNodes unused) (nodesOf h d) g beyond l
 
 -- a bottom node whose pointer leads out of the window: the nodes that grow resets
 abbrev pub orphan : Table → Window → ℕ → Bool

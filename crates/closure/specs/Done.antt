@@ -14,7 +14,7 @@ use Rattle.shape.specs.Ranges.{both}
 use Rattle.shape.specs.Sizes.{heightOk, distanceOk, inRange, shapeOf, detectorsOf, layerEdgesOf}
 use Rattle.steps.specs.Steps.{Table}
 use Rattle.shape.specs.declared.Shape.{Shape}
-use Rattle.window.specs.Window.{isRest}
+use Rattle.window.specs.Window.{isRest, maxNext}
 use Rattle.window.specs.Formed.{wellFormed}
 use Rattle.window.specs.Fresh.{freshWindow}
 use Rattle.window.specs.Calls.{leaves, Round, stateTests, roundBy, freshCall}
@@ -71,7 +71,7 @@ pub accepted : (T : Table) (w : Window) (bytes edges escapes : List ℕ) (v r : 
 accepted T w bytes edges escapes v r n e =
     let a = took (wellFormed T w) _ (refused 21) r n refl e in
     let b = took (isRest (w .stage)) _ (refused 22) r n refl (a .1) in
-    let c = took (ltb (w .next) 4294967295) _ (refused 23) r n refl (b .1) in
+    let c = took (ltb (w .next) maxNext) _ (refused 23) r n refl (b .1) in
     let d = took (eqb (length bytes) (detectorsOf (w .shape .height) (w .shape .distance))) _ (refused 3) r n refl (c .1) in
     let f = took (eqb (length edges) (layerEdgesOf (w .shape .height) (w .shape .distance))) _ (refused 5) r n refl (d .1) in
     let g = took (eqb (length escapes) (detectorsOf (w .shape .height) (w .shape .distance))) _ (refused 6) r n refl (f .1) in

@@ -5,13 +5,13 @@ use mathlib.Core.Path.{_≡_, refl, _∙_, ap}
 use mathlib.Core.Bool.{Bool, true, false, _&&_, not}
 use borrow.Author.Tests.{lt-ltb}
 use lib.ListN.{replicate, length-replicate}
-use Rattle.shape.specs.Sizes.{boundary, inRange, nodesOf, detectorsOf}
+use Rattle.shape.specs.Sizes.{boundary, inRange, nodesOf, detectorsOf, maxNodes, maxDetectors}
 use Rattle.shape.specs.Ranges.{Ranged, ranged}
 use Rattle.shape.specs.Nodes.{numberOf, placeAt}
 use Rattle.steps.specs.Steps.{Table}
 use Rattle.shape.specs.declared.Shape.{Shape}
 use Rattle.window.specs.LawsLists.{length-over, getD-same}
-use Rattle.window.specs.Window.{alone, unused}
+use Rattle.window.specs.Window.{alone, unused, maxSlots}
 use Rattle.window.specs.Fresh.{freshWindow}
 use Rattle.window.specs.Formed.{isEmpty, unusedNode, defectFits, wellFormed}
 use Rattle.window.specs.declared.Stage.{Stage}
@@ -42,11 +42,11 @@ module _ (T : Table) (sh : Shape) (e : inRange (sh .height) (sh .distance) ≡ t
         ranged = r;
         next = omega arith;
         nodes = λ g l. rw (fresh-at sh g l) (alone-fits T Rest h d _ _ r g l false (no-defect (boundary d (placeAt h d g .column))) (λ m. refl));
-        slots = λ g kind l m. empty _ _ _ (getD-same {A = ℕ} 0 10800 (T .kinds * g + kind)) (getD-same false 10800 (T .kinds * g + kind));
-        unusedNodes = all-over unusedNode (λ i. alone (numberOf h d (placeAt h d i)) false) (nodesOf h d) (replicate 3600 unused) (all-drop unusedNode unused refl (nodesOf h d) 3600);
-        unusedGrowth = all-drop {A = ℕ} isEmpty 0 refl (T .kinds * nodesOf h d) 10800;
-        unusedCorrection = all-drop not false refl (T .kinds * nodesOf h d) 10800;
-        unusedMeasured = all-drop not false refl (detectorsOf h d) 210;
+        slots = λ g kind l m. empty _ _ _ (getD-same {A = ℕ} 0 maxSlots (T .kinds * g + kind)) (getD-same false maxSlots (T .kinds * g + kind));
+        unusedNodes = all-over unusedNode (λ i. alone (numberOf h d (placeAt h d i)) false) (nodesOf h d) (replicate maxNodes unused) (all-drop unusedNode unused refl (nodesOf h d) maxNodes);
+        unusedGrowth = all-drop {A = ℕ} isEmpty 0 refl (T .kinds * nodesOf h d) maxSlots;
+        unusedCorrection = all-drop not false refl (T .kinds * nodesOf h d) maxSlots;
+        unusedMeasured = all-drop not false refl (detectorsOf h d) maxDetectors;
       }
 
   pub fresh : wellFormed T (freshWindow sh) ≡ true
@@ -57,10 +57,10 @@ unfolding freshWindow
 fresh-sized sh =
     let h = sh .height in
     let d = sh .distance in
-    let n = length-replicate 3600 unused in
+    let n = length-replicate maxNodes unused in
     record {
-      nodes = length-over (λ i. alone (numberOf h d (placeAt h d i)) false) (replicate 3600 unused) (nodesOf h d) (rw n (size-le (freshWindow sh))) ∙ n;
-      growth = length-replicate {A = ℕ} 10800 0;
-      correction = length-replicate 10800 false;
-      measured = length-replicate 210 false;
+      nodes = length-over (λ i. alone (numberOf h d (placeAt h d i)) false) (replicate maxNodes unused) (nodesOf h d) (rw n (size-le (freshWindow sh))) ∙ n;
+      growth = length-replicate {A = ℕ} maxSlots 0;
+      correction = length-replicate maxSlots false;
+      measured = length-replicate maxDetectors false;
     }

@@ -5,7 +5,7 @@ use mathlib.Core.Path.{_≡_, refl, _∙_, subst}
 use mathlib.Core.Bool.{true, false, not}
 use mathlib.Core.List.{List}
 use lib.ListN.{length, drop, replicate, length-replicate}
-use Rattle.shape.specs.Sizes.{detectorsOf}
+use Rattle.shape.specs.Sizes.{detectorsOf, maxDetectors}
 use Rattle.shape.specs.LawsSizes.{detectors-le}
 use Rattle.steps.specs.Steps.{Table}
 use Rattle.window.specs.Lists.{all}
@@ -20,7 +20,7 @@ use Rattle.closure.specs.Facts.{Facts, facts, formed}
 -- behind the bytes nothing is set
 sheet-unused : (bytes : List ℕ) → all not (drop (length bytes) (asSheet bytes)) ≡ true
 unfolding asSheet
-sheet-unused bytes = all-over not (isSet bytes) (length bytes) (replicate 210 false) (all-drop not false refl (length bytes) 210)
+sheet-unused bytes = all-over not (isSet bytes) (length bytes) (replicate maxDetectors false) (all-drop not false refl (length bytes) maxDetectors)
 
 module _ (T : Table) (w : Window) (bytes : List ℕ) (long : length bytes ≡ detectorsOf (w .shape .height) (w .shape .distance)) where
   measured-facts : Facts T w → Facts T (measuring w bytes)
@@ -43,11 +43,11 @@ module _ (T : Table) (w : Window) (bytes : List ℕ) (long : length bytes ≡ de
   pub measure-sized : wellFormed T w ≡ true → Sized w → Sized (measuring w bytes)
   unfolding measuring asSheet
   measure-sized e s =
-      let n = length-replicate 210 false in
+      let n = length-replicate maxDetectors false in
       let l = detectors-le (w .shape .height) (w .shape .distance) (facts T w e .ranged) in
       record {
         nodes = s .nodes;
         growth = s .growth;
         correction = s .correction;
-        measured = length-over (isSet bytes) (replicate 210 false) (length bytes) (omega arith) ∙ n;
+        measured = length-over (isSet bytes) (replicate maxDetectors false) (length bytes) (omega arith) ∙ n;
       }

@@ -9,7 +9,7 @@ use Rattle.shape.specs.Choice.{if}
 use Rattle.shape.specs.Sizes.{detectorsOf, layerEdgesOf}
 use Rattle.steps.specs.Steps.{Table}
 use Rattle.record.specs.Records.{header, headerAt, unlessEnded, roundAt, Result, result}
-use Rattle.window.specs.Window.{isRest}
+use Rattle.window.specs.Window.{isRest, maxNext}
 use Rattle.window.specs.Fresh.{freshWindow}
 use Rattle.window.specs.Formed.{wellFormed}
 use Rattle.window.specs.Round.{rounded, committedEdges, escapedDefects}
@@ -59,7 +59,7 @@ recorded room (done t next) = if (t .rest) (recordWritten room (result (t .resul
 
 -- 23: no round can follow the last one. It is asked behind the end, so that a stream that ends with the last round is decoded to its end
 abbrev pub lastTest : Window → List (Bool × ℕ)
-lastTest w = (ltb (w .next) 4294967295, 23) ∷ []
+lastTest w = (ltb (w .next) maxNext, 23) ∷ []
 
 module _ (T : Table) (s : List ℕ) where
   -- a round is read at an offset, received and run

@@ -21,6 +21,7 @@ use Rattle.steps.specs.Steps.{Table}
 use Rattle.shape.specs.declared.Shape.{Shape}
 use Rattle.record.specs.Laws.{at-end, before-end}
 use Rattle.record.specs.Records.{header, headerAt, unlessEnded, roundAt, result}
+use Rattle.window.specs.Window.{maxNext}
 use Rattle.window.specs.Fresh.{freshWindow}
 use Rattle.window.specs.Calls.{roundCall, runCall}
 use Rattle.window.specs.Formed.{wellFormed}
@@ -65,11 +66,11 @@ module _ (T : Table) (s : List ℕ) (size : ℕ) (w : Window) (at to : ℕ) wher
       record-more : entry ≡ recorded (size - to) (unlessLast T s w at)
       record-more = record-tested ∙ ap (recorded (size - to)) (pass Turn (unlessEnded s at (unlessLast T s w at)) ∙ before-end s at (unlessLast T s w at) more)
 
-      pub record-last : 4294967295 ≤ w .next → entry ≡ stopped (turnedBack (plain 23))
-      record-last l = record-more ∙ ap (recorded (size - to)) (fails _ _ (le-ltb (w .next) 4294967295 l))
+      pub record-last : maxNext ≤ w .next → entry ≡ stopped (turnedBack (plain 23))
+      record-last l = record-more ∙ ap (recorded (size - to)) (fails _ _ (le-ltb (w .next) maxNext l))
 
-      pub record-turn : w .next < 4294967295 → entry ≡ recorded (size - to) (turnAt T s w at)
-      record-turn l = record-more ∙ ap (recorded (size - to)) (passes _ _ (lt-ltb (w .next) 4294967295 l))
+      pub record-turn : w .next < maxNext → entry ≡ recorded (size - to) (turnAt T s w at)
+      record-turn l = record-more ∙ ap (recorded (size - to)) (passes _ _ (lt-ltb (w .next) maxNext l))
 
 -- a record that was written: its turn came to rest, it is what the turn gave, and it had room
 pub record Written (room : ℕ) (a : Answer Turn) (bytes : List ℕ) (v : Window) (next : ℕ) : Type 0 where
@@ -143,7 +144,7 @@ module _ (T : Table) (s : List ℕ) (size : ℕ) (w : Window) (at to : ℕ) (byt
   record Asked : Type 0 where
     tests : Hold (asked T s size w at to)
     more : at < length s
-    early : w .next < 4294967295
+    early : w .next < maxNext
     turn : turnAt T s w at ≡ done (behind-tests .turn) next
 
   record-asked : Asked
@@ -152,7 +153,7 @@ module _ (T : Table) (s : List ℕ) (size : ℕ) (w : Window) (at to : ℕ) (byt
       let a = done-holds (asked T s size w at to) (unlessEnded s at (unlessLast T s w at)) t next (behind-tests .answer) in
       let b = took (ltb at (length s)) (unlessLast T s w at) ended t next refl (a .1) in
       let c = done-holds (lastTest w) (turnAt T s w at) t next (b .1) in
-      record { tests = a .0; more = ltb-true at (length s) (b .0); early = ltb-true (w .next) 4294967295 (c .0 .0); turn = c .1 }
+      record { tests = a .0; more = ltb-true at (length s) (b .0); early = ltb-true (w .next) maxNext (c .0 .0); turn = c .1 }
 
   pub record-written : Written (size - to) (turnAt T s w at) bytes v next
   record-written =

@@ -15,7 +15,7 @@ use Rattle.steps.specs.Steps.{Table}
 use Rattle.record.specs.Records.{roundAt}
 use Rattle.window.specs.Lists.{byPlace, bit}
 use Rattle.window.specs.LawsLists.{length-by, bits-by}
-use Rattle.window.specs.Window.{isRest, at}
+use Rattle.window.specs.Window.{isRest, at, maxNext}
 use Rattle.window.specs.Formed.{wellFormed}
 use Rattle.window.specs.Round.{edgeSlot, detectorAt, rounded, committedEdges, escapedDefects}
 use Rattle.window.specs.Run.{ran}
@@ -96,7 +96,7 @@ module _ (T : Table) (w : Window) where
   unfolding turnAt
   turn-steps s at = refl
 
-  module _ (S : Suited T) (formed : wellFormed T w ≡ true) (rest : isRest (w .stage) ≡ true) (next : w .next < 4294967295) (bytes : List ℕ)
+  module _ (S : Suited T) (formed : wellFormed T w ≡ true) (rest : isRest (w .stage) ≡ true) (next : w .next < maxNext) (bytes : List ℕ)
       (long : length bytes ≡ detectors w) (bits : areBits bytes ≡ true) where
     -- no call refuses it
     round-accepted : roundCall T w bytes (replicate {A = ℕ} (edges w) 0) (replicate {A = ℕ} (detectors w) 0) ≡ done (receiving T w bytes) 0

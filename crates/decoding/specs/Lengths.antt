@@ -15,7 +15,7 @@ use Rattle.list.specs.Laws.{listed-is, length-skips, ones-nil, ones-set, ones-u
 use Rattle.shape.specs.Choice.{if, order}
 use Rattle.shape.specs.LawsSizes.{detectors-le, layer-le}
 use Rattle.shape.specs.Ranges.{ranged}
-use Rattle.shape.specs.Sizes.{inRange}
+use Rattle.shape.specs.Sizes.{inRange, maxDetectors, maxLayerEdges}
 use Rattle.steps.specs.Steps.{Table}
 use Rattle.record.specs.Records.{result}
 use Rattle.window.specs.Window.{isRest, isToGrow}
@@ -49,7 +49,7 @@ short n l = rw (written-one n l) (omega arith)
 longer : (n k : ℕ) → 128 ≤ n → length (written (n / 128)) ≤ k → length (written n) ≤ k + 1
 longer n k l m = rw (written-more n l) (omega arith)
 
-count-written : (n : ℕ) → n ≤ 65536 → length (written n) ≤ 3
+count-written : (n : ℕ) → n ≤ budget → length (written n) ≤ 3
 count-written n l =
     ⊎-elim (λ a. let b = short n a in omega arith)
     (λ a. ⊎-elim (λ b. let c = longer n 1 a (short (n / 128) b) in omega arith)
@@ -66,8 +66,15 @@ count-most T (suc n) made w = go (isRest (merged T w .stage)) refl (count-most T
     go true e l = rw (steps-rest T made w n e) (omega arith)
     go false e l = rw (steps-on T made w n e) (omega arith)
 
--- 631 edges and 210 detectors at most, and the count of steps
-pub turn-most : (T : Table) (w : Window) (bytes : List ℕ) → inRange (w .shape .height) (w .shape .distance) ≡ true → length (result (turnOf T w bytes .result)) ≤ 1687
+-- the bytes of a record at most: both lists of the largest shape, and the count of steps
+abbrev pub maxRecord : ℕ
+maxRecord = 2 * maxLayerEdges + 1 + (2 * maxDetectors + 1) + 3
+
+-- the program's buffer has 65,536 bytes
+pub record-fits : maxRecord ≤ 65536
+record-fits = omega arith
+
+pub turn-most : (T : Table) (w : Window) (bytes : List ℕ) → inRange (w .shape .height) (w .shape .distance) ≡ true → length (result (turnOf T w bytes .result)) ≤ maxRecord
 unfolding ran result
 turn-most T w bytes e =
     let h = w .shape .height in

@@ -6,12 +6,13 @@ use window::Way;
 ghost use mathlib.Core.Path.{_≡_};
 ghost use mathlib.Core.Bool.{false};
 ghost use Prim.Native.Nat.{_+_, _*_, _<_};
+ghost use Rattle.shape.specs.Sizes.{maxNodes};
 ghost use Rattle.window.specs.Grow.{gains};
 ghost use Rattle.window.specs.Merging.{hot, sees, pushes as pushesAlong, arrivals, flipped, nothing as nothingSeen};
 
 // The slot of a node's edge of a kind.
 pub fn slot(g: usize, kind: u8) -> usize
-    requires { ⌜ g < 3600 ⌝ }
+    requires { ⌜ g < maxNodes ⌝ }
     ensures { λ r. ⌜ r ≡ 3 * g + kind ⌝ }
 {
     3 * g + kind as usize

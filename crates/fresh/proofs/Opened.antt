@@ -9,8 +9,8 @@ use Rattle.refusal.specs.Laws.{turned-not, turned-passed, value-not, turned-as}
 use Rattle.refusal.specs.Done.{took}
 use Rattle.refusal.specs.declared.Refusal.{Refusal}
 use Rattle.shape.specs.Ranges.{both}
-use Rattle.shape.specs.Sizes.{shapeAnswer, heightOk, distanceOk, shapeOf, inRange, sheetsOf, nodesOf}
-use Rattle.window.specs.Window.{alone, unused}
+use Rattle.shape.specs.Sizes.{shapeAnswer, heightOk, distanceOk, shapeOf, inRange, sheetsOf, nodesOf, maxNodes, maxDetectors}
+use Rattle.window.specs.Window.{alone, unused, maxSlots}
 use Rattle.window.specs.Fresh.{freshWindow, noWindow}
 use Rattle.window.specs.Calls.{Answered, given, leaves, freshCall}
 use Rattle.shape.specs.Nodes.{numberOf, placeAt}
@@ -60,7 +60,24 @@ numbering sh g = alone (numberOf (sh .height) (sh .distance) (placeAt (sh .heigh
 pub numbered-by : (sh : Shape) (g m : ℕ) (q : Place) (x : Node) → q ≡ placeAt (sh .height) (sh .distance) g → m ≡ numberOf (sh .height) (sh .distance) q → x ≡ alone m false → x ≡ numbering sh g
 numbered-by sh g m q x e f z = rw (z, f, e)
 
-pub fresh-by : (sh : Shape) (g s : ℕ) (nodes : List Node) → g ≡ nodesOf (sh .height) (sh .distance) → s ≡ sheetsOf (sh .distance) → nodes ≡ over g (numbering sh) (replicate 3600 unused)
-    → _≡_ {A = Window} (record { shape = sh; stage = Rest; next = s; nodes = nodes; growth = replicate {A = ℕ} 10800 0; correction = replicate 10800 false; measured = replicate 210 false }) (freshWindow sh)
+-- a window at rest with nothing on its edges, and no sheet measured
+abbrev opened : Shape → ℕ → List Node → Window
+opened sh s nodes =
+    record {
+      shape = sh;
+      stage = Rest;
+      next = s;
+      nodes = nodes;
+      growth = replicate {A = ℕ} maxSlots 0;
+      correction = replicate maxSlots false;
+      measured = replicate maxDetectors false;
+    }
+
+pub none-by : (x : Node) → x ≡ unused → opened (record { height = 0; distance = 0 }) 0 (replicate maxNodes x) ≡ noWindow
+unfolding noWindow
+none-by x e = ap (λ (n : Node). opened (record { height = 0; distance = 0 }) 0 (replicate maxNodes n)) e
+
+pub fresh-by : (sh : Shape) (g s : ℕ) (nodes : List Node) → g ≡ nodesOf (sh .height) (sh .distance) → s ≡ sheetsOf (sh .distance) → nodes ≡ over g (numbering sh) (replicate maxNodes unused)
+    → opened sh s nodes ≡ freshWindow sh
 unfolding freshWindow
 fresh-by sh g s nodes e f z = rw (z, e, f)

@@ -1,9 +1,12 @@
 // The fresh window of a shape.
+use shape::MAX_DETECTORS;
+use shape::MAX_NODES;
 use shape::Place;
 use shape::Shape;
 use shape::Shaped;
 use window::Called;
 use window::Given;
+use window::MAX_SLOTS;
 use window::Stage;
 use window::Window;
 ghost use mathlib.Core.Path.{_≡_};
@@ -24,10 +27,10 @@ fn no_window() -> Window
         },
         stage: Stage::Rest,
         next: 0,
-        nodes: [window::alone(0, false); 3600],
-        growth: [0; 10800],
-        correction: [false; 10800],
-        measured: [false; 210],
+        nodes: [window::alone(0, false); MAX_NODES],
+        growth: [0; MAX_SLOTS],
+        correction: [false; MAX_SLOTS],
+        measured: [false; MAX_DETECTORS],
     }
 }
 
@@ -36,7 +39,7 @@ fn fresh_window(shape: Shape) -> Window
     ensures { λ r. ⌜ r ≡ freshWindow shape ⌝ }
 {
     let n = shape::nodes(shape);
-    let mut nodes = [window::alone(0, false); 3600];
+    let mut nodes = [window::alone(0, false); MAX_NODES];
     let mut place = Place {
         depth: 0,
         row: 0,
@@ -53,9 +56,9 @@ fn fresh_window(shape: Shape) -> Window
         stage: Stage::Rest,
         next: shape::sheets(shape) as u32,
         nodes,
-        growth: [0; 10800],
-        correction: [false; 10800],
-        measured: [false; 210],
+        growth: [0; MAX_SLOTS],
+        correction: [false; MAX_SLOTS],
+        measured: [false; MAX_DETECTORS],
     }
 }
 

@@ -12,7 +12,7 @@ use lib.Dec.{ltb, leb, eqb}
 use lib.ListN.{length, drop, getD}
 use lib.Seq.{drop-cons}
 use Rattle.shape.specs.Choice.{if-false, order, tell}
-use Rattle.shape.specs.Sizes.{sheetsOf, boundary}
+use Rattle.shape.specs.Sizes.{sheetsOf, boundary, maxNodes}
 use Rattle.shape.specs.Ranges.{halves}
 use Rattle.steps.specs.Steps.{base, falls}
 use Rattle.steps.specs.Proper.{falls-down}
@@ -85,21 +85,21 @@ module _ (w : Window) (q : Place) (g : ℕ) (s : Stands (w .shape .height) (w .s
   abbrev by : ℕ → Way
   by p = way (w .shape .height) (w .shape .distance) (present w) q g s p
 
-  other : (p i k : ℕ) → (k < 3600 → i ≡ k) → (by p .there ≡ true → by p .node ≡ k) → at w i .active ≡ false → by p .there ≡ true → at w (by p .node) .active ≡ false
+  other : (p i k : ℕ) → (k < maxNodes → i ≡ k) → (by p .there ≡ true → by p .node ≡ k) → at w i .active ≡ false → by p .there ≡ true → at w (by p .node) .active ≡ false
   other p i k f m a t =
       let n = m t in
-      let b : k < 3600 = omega (arith, way-low (w .shape .height) (w .shape .distance) (present w) p q (s .ranged) (supplied-le (w .shape .distance) (w .next) (sheetsOf (w .shape .distance))) .0) in
+      let b : k < maxNodes = omega (arith, way-low (w .shape .height) (w .shape .distance) (present w) p q (s .ranged) (supplied-le (w .shape .distance) (w .next) (sheetsOf (w .shape .distance))) .0) in
       subst (λ (x : ℕ). at w x .active ≡ false) (f b ∙ sym n) a
 
   -- the slot of a kind, over the way p to k, which is read at i
-  slot-still : (kind p i k : ℕ) → kind < 3 → namer base kind ≡ p → (k < 3600 → i ≡ k) → (by p .there ≡ true → by p .node ≡ k)
+  slot-still : (kind p i k : ℕ) → kind < 3 → namer base kind ≡ p → (k < maxNodes → i ≡ k) → (by p .there ≡ true → by p .node ≡ k)
       → at w i .active ≡ false → getD (w .growth) (3 * g + kind) 0 ≤ 2 → getD (w .growth) (3 * g + kind) 0 ≡ grownSlot base w (3 * g + kind)
   slot-still kind p i k l z f m a u =
       slot-by w g kind p (3 * g + kind) (getD (w .growth) (3 * g + kind) 0) (present w) q (by p) (at w g) (at w (by p .node)) l refl z refl e refl refl refl
       (still (by p) (getD (w .growth) (3 * g + kind) 0) (at w g) (at w (by p .node)) u mine (other p i k f m a))
 
   -- by the test that the code makes, reading at i, j and k
-  module _ (i j k : ℕ) (i-is : g + 1 < 3600 → i ≡ g + 1) (j-is : g + (w .shape .distance + 1) < 3600 → j ≡ g + (w .shape .distance + 1)) (k-is : k ≡ g - w .shape .height * (w .shape .distance + 1))
+  module _ (i j k : ℕ) (i-is : g + 1 < maxNodes → i ≡ g + 1) (j-is : g + (w .shape .distance + 1) < maxNodes → j ≡ g + (w .shape .distance + 1)) (k-is : k ≡ g - w .shape .height * (w .shape .distance + 1))
       (right : at w i .active ≡ false) (front : at w j .active ≡ false) (above : at w k .active ≡ false) where
     pub east-still : getD (w .growth) (3 * g) 0 ≤ 2 → getD (w .growth) (3 * g) 0 ≡ grownSlot base w (3 * g)
     east-still u = rw add-zero at (slot-still 0 3 i (g + 1) (omega arith) named-east i-is (leads-east (w .shape .height) (w .shape .distance) (present w) q g s) right (rw add-zero u))
@@ -116,7 +116,7 @@ uncut w g e = sym (if-false _ _ _ (and-no (bottom w g) (falls base (at w g .poin
 
 -- a node that is quiet stays as it is, and so do its three slots
 pub quiet : (w : Window) (q : Place) (g i j k : ℕ) → Stands (w .shape .height) (w .shape .distance) q g → q ≡ place w g
-    → (g + 1 < 3600 → i ≡ g + 1) → (g + (w .shape .distance + 1) < 3600 → j ≡ g + (w .shape .distance + 1)) → k ≡ g - w .shape .height * (w .shape .distance + 1)
+    → (g + 1 < maxNodes → i ≡ g + 1) → (g + (w .shape .distance + 1) < maxNodes → j ≡ g + (w .shape .distance + 1)) → k ≡ g - w .shape .height * (w .shape .distance + 1)
     → not (at w g .active) && not (at w i .active) && not (at w j .active) && not (at w k .active) && not (eqb (at w g .pointer) 5)
     && (leb (getD (w .growth) (3 * g) 0) 2 && leb (getD (w .growth) (3 * g + 1) 0) 2 && leb (getD (w .growth) (3 * g + 2) 0) 2) ≡ true
     → 3 * g + 2 < length (w .growth) → (over (3 * g) (grownSlot base w) (w .growth) ≡ over (3 * g + 3) (grownSlot base w) (w .growth)) × (at w g ≡ grownNode base w g)

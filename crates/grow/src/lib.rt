@@ -1,4 +1,5 @@
 // Growing a window: each edge gains a half for each active end, and the bottom nodes that lost what they pointed to are cut.
+use shape::MAX_NODES;
 use shape::Place;
 use shape::Shape;
 use window::Mark;
@@ -10,7 +11,7 @@ ghost use mathlib.Core.Bool.{_&&_};
 ghost use Prim.Native.Nat.{_+_, _-_, _<_};
 ghost use lib.Dec.{eqb};
 ghost use Rattle.shape.specs.Choice.{if};
-ghost use Rattle.shape.specs.Sizes.{sheetsOf};
+ghost use Rattle.shape.specs.Sizes.{sheetsOf, maxNodes};
 ghost use Rattle.steps.specs.Steps.{base, falls};
 ghost use Rattle.window.specs.Grow.{cut, grown};
 
@@ -32,9 +33,9 @@ fn cut_down(shape: Shape, place: Place, node: Node) -> Node
 
 // An index of the nodes: 0 where there is none.
 fn within(i: usize) -> usize
-    ensures { λ r. ⌜ (r < 3600) × (i < 3600 → r ≡ i) ⌝ }
+    ensures { λ r. ⌜ (r < maxNodes) × (i < maxNodes → r ≡ i) ⌝ }
 {
-    if i < 3600 {
+    if i < MAX_NODES {
         return i;
     }
     0

@@ -4,26 +4,27 @@ use native.Mathlib.Omega.{arith}
 use mathlib.Core.Path.{_≡_, refl, sym, _∙_}
 use mathlib.Core.Bool.{true}
 use borrow.Author.Tests.{eqb-true}
-use lib.ListN.{getD, replicate}
 use Rattle.shape.specs.Ranges.{halves}
 use Rattle.steps.specs.Steps.{Table}
 use Rattle.shape.specs.declared.Shape.{Shape}
 use Rattle.window.specs.Fresh.{freshWindow}
 use Rattle.window.specs.LawsLists.{and-no}
-use Rattle.window.specs.Window.{to}
+use Rattle.window.specs.Window.{to, maxSlots}
 use Rattle.window.specs.LawsLists.{getD-same}
 use Rattle.closure.specs.After.{fresh-at}
 use Rattle.law.specs.Nodes.{actives, defects, pointers, marks}
 use Rattle.law.specs.Graph.{graph, view, Connected, same, over, Calm, here}
+
+-- a lemma of its own, so that no array is in reach of omega, which would write it out
+not-two : _≡_ {A = ℕ} 0 2 → ⊥
+not-two e = omega arith
 
 module _ (T : Table) (sh : Shape) where
   not-open : (v p : ℕ) → graph T (freshWindow sh) .opn v p ≡ true → ⊥
   unfolding freshWindow
   not-open v p e =
       let way = to (freshWindow sh) T p v in
-      let a : getD (replicate {A = ℕ} 10800 0) (way .slot) 0 ≡ 2 = eqb-true _ _ (halves (way .there) _ e .1) in
-      let b = getD-same {A = ℕ} 0 10800 (way .slot) in
-      omega (arith, sym a ∙ b)
+      not-two (sym (getD-same {A = ℕ} 0 maxSlots (way .slot)) ∙ eqb-true _ _ (halves (way .there) _ e .1))
 
   only-self : (v u : ℕ) → Connected (graph T (freshWindow sh)) v u → u ≡ v
   only-self v u same = refl

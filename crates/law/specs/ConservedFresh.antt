@@ -11,6 +11,7 @@ use Rattle.shape.specs.Ranges.{ranged}
 use Rattle.shape.specs.Nodes.{indexOf}
 use Rattle.steps.specs.Steps.{Table}
 use Rattle.shape.specs.declared.Shape.{Shape}
+use Rattle.window.specs.Window.{maxSlots}
 use Rattle.window.specs.Lists.{bit, xor}
 use Rattle.window.specs.LawsLists.{and-no, and-not}
 use Rattle.window.specs.Fresh.{freshWindow}
@@ -28,7 +29,7 @@ module _ (T : Table) (sh : Shape) (e : inRange (sh .height) (sh .distance) ≡ t
 
   fresh-edge : (n i : ℕ) → corrected T fresh n i ≡ false
   unfolding freshWindow
-  fresh-edge n i = ap (λ (b : Bool). xor false b) (and-no (edged T fresh n i) _ (getD-same false 10800 (slotOf T fresh n i)))
+  fresh-edge n i = ap (λ (b : Bool). xor false b) (and-no (edged T fresh n i) _ (getD-same false maxSlots (slotOf T fresh n i)))
 
   fresh-spot : (a : Spot) → Detector fresh a → standing fresh a ≡ false
   unfolding freshWindow

@@ -6,6 +6,7 @@ use mathlib.Core.Bool.{Bool, true, false}
 use mathlib.Core.List.{List, []}
 use lib.Dec.{eqb}
 use lib.ListN.{length, getD, replicate}
+use Rattle.shape.specs.Sizes.{maxDetectors}
 use Rattle.list.specs.Sheet.{areBits}
 use Rattle.steps.specs.Steps.{base}
 use Rattle.layers.specs.declared.Edge.{Edge}
@@ -51,7 +52,7 @@ plain =
 -- THE LAST MEASURED SHEET, and what a raw call receives
 pub record PlainSheet : Type 0 where
   -- the sheet of no bytes is all zero
-  pub none : asSheet [] ≡ replicate 210 false
+  pub none : asSheet [] ≡ replicate maxDetectors false
   -- that of some is set where a byte is 1, and nowhere else
   pub set : (bytes : List ℕ) (i : ℕ) → getD (asSheet bytes) i false ≡ eqb (getD bytes i 0) 1
   -- after the bytes old, the bytes new receive their sum modulo 2: 1 where a check value has changed

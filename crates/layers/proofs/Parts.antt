@@ -4,14 +4,14 @@ use native.Mathlib.Nat.{mul-le-mul-right}
 use native.Mathlib.Omega.{arith}
 use mathlib.Core.Path.{_≡_}
 use mathlib.Core.Bool.{true}
-use Rattle.shape.specs.Sizes.{layerEdgesOf}
+use Rattle.shape.specs.Sizes.{maxHeight, maxDistance, layerEdgesOf}
 use Rattle.shape.specs.Ranges.{Ranged, bounded}
 use Rattle.layers.specs.Layer.{rowEdges, sheetEdges, isEdge}
 use Rattle.layers.specs.Limits.{Rowed}
 
 module _ (h d n : ℕ) where
-  -- at most fifteen rows of w edges
-  rowed : (w first k m : ℕ) → 1 ≤ w → w ≤ 15 → first ≤ 1 → k ≤ 15 → m < k * w → Rowed w first m
+  -- no more rows, of w edges, than the largest shape has
+  rowed : (w first k m : ℕ) → 1 ≤ w → w ≤ maxDistance → first ≤ 1 → k ≤ maxHeight → m < k * w → Rowed w first m
   rowed w first k m a b c l e =
       record { wide = a; narrow = b; start = c; count = omega (arith, mul-le-mul-right w l) }
 

@@ -4,7 +4,7 @@ use native.Mathlib.Omega.{arith}
 use mathlib.Core.Path.{_≡_, _∙_}
 use borrow.Author.Tests.{lt-ltb}
 use Rattle.shape.specs.Choice.{if-true}
-use Rattle.shape.specs.Sizes.{sheetsOf, detectorsOf, layerEdgesOf}
+use Rattle.shape.specs.Sizes.{sheetsOf, detectorsOf, layerEdgesOf, maxNodes}
 use Rattle.shape.specs.Ranges.{Ranged, in-range, both}
 use Rattle.shape.specs.Counting.{Inside, wider}
 use Rattle.shape.specs.Nodes.{indexOf}
@@ -16,6 +16,7 @@ use Rattle.shape.specs.declared.Place.{Place}
 use Rattle.layers.specs.declared.Edge.{Edge}
 use Rattle.layers.specs.declared.EdgeFound.{EdgeFound}
 use Rattle.layers.specs.declared.EdgeFound.the-variants as listed
+use Rattle.window.specs.Window.{maxSlots}
 use Rattle.window.specs.Round.{edgeSlot, detectorAt}
 use Rattle.window.specs.LawsRound.{detector-inside}
 
@@ -34,7 +35,7 @@ module _ (h d : ℕ) (r : Ranged h d) where
   abbrev pub lowest : ℕ
   lowest = sheetsOf d - 1
 
-  low : (q : Place) → Inside h d (lowest + 1) q → indexOf h d q < 3600
+  low : (q : Place) → Inside h d (lowest + 1) q → indexOf h d q < maxNodes
   low q i =
       let j = wider h d (lowest + 1) (sheetsOf d) q (omega arith) i in
       omega (arith, index-lt h d (sheetsOf d) q j, window-le h d r)
@@ -44,15 +45,15 @@ module _ (h d : ℕ) (r : Ranged h d) where
     unfolding edgeAt
     edge-there x e = e ∙ if-true _ _ _ (both _ _ (in-range h d r) (lt-ltb _ _ l))
 
-    pub edge-node-low : indexOf h d (record { depth = lowest; row = edgeOf h d i .row; column = edgeOf h d i .column }) < 3600
+    pub edge-node-low : indexOf h d (record { depth = lowest; row = edgeOf h d i .row; column = edgeOf h d i .column }) < maxNodes
     edge-node-low = low _ (has-inside h d lowest (edgeOf h d i) (number-has h d (r .d2) i l))
 
     edge-kind : edgeOf h d i .kind < 3
     edge-kind = has-kind h d (edgeOf h d i) (number-has h d (r .d2) i l)
 
-    pub edge-low : edgeSlot base h d lowest (edgeOf h d i) < 10800
+    pub edge-low : edgeSlot base h d lowest (edgeOf h d i) < maxSlots
     unfolding base
     edge-low = omega (arith, edge-node-low, edge-kind)
 
-  pub detector-low : (i : ℕ) → i < detectorsOf h d → indexOf h d (detectorAt d lowest i) < 3600
+  pub detector-low : (i : ℕ) → i < detectorsOf h d → indexOf h d (detectorAt d lowest i) < maxNodes
   detector-low i l = low _ (detector-inside h d r i l (lowest + 1) lowest (omega arith))

@@ -8,13 +8,13 @@ use borrow.Author.Tests.{not-false, eqb-true, eqb-false}
 use lib.Dec.{eqb, ltb}
 use lib.ListN.{length, getD}
 use Rattle.shape.specs.Choice.{tell, order}
-use Rattle.shape.specs.Sizes.{sheetsOf, boundary, nodesOf}
+use Rattle.shape.specs.Sizes.{sheetsOf, boundary, nodesOf, maxNodes}
 use Rattle.shape.specs.Ranges.{nodes-of}
 use Rattle.shape.specs.Counting.{wider}
 use Rattle.shape.specs.Nodes.{numberOf}
 use Rattle.steps.specs.Proper.{proper-base}
 use Rattle.steps.specs.Steps.{base, step, near}
-use Rattle.shape.specs.LawsIndex.{index-lt}
+use Rattle.shape.specs.LawsIndex.{index-lt, nodes-max}
 use Rattle.steps.specs.LawsStep.{near-inside}
 use Rattle.shape.specs.declared.Found.{Found}
 use Rattle.shape.specs.declared.Found.the-variants.{At, Nowhere}
@@ -31,9 +31,9 @@ use Rattle.window.specs.declared.Stepped.{Stepped}
 use Rattle.window.specs.declared.Way.{Way}
 use Rattle.window.specs.declared.Window.{Window}
 use Rattle.walk.specs.Walk.{Stands}
-use Rattle.walk.specs.LawsWalk.{peopled, nodes-max, stands, slot-at, none-there, way-there, named-east, named-south, named-up}
+use Rattle.walk.specs.LawsWalk.{peopled, stands, slot-at, none-there, way-there, named-east, named-south, named-up}
 use Rattle.walk.specs.Ways.{pos, less, absent-none, north-none, north-index, north-way, west-none, west-index, west-way, east-none, east-way, south-none, south-way, down-none, down-way, up-none, up-index, up-way}
-use Rattle.stir.specs.Stirred.{differ, loud, uneven, within, stirred}
+use Rattle.stir.specs.Stirred.{differ, loud, uneven, within, margin, stirred}
 use Rattle.merge.proofs.Turn.{six-steps}
 use Rattle.stir.specs.Marks.{room, within-is, quiet, bitOf, spotOf, bit, spot, eastOf, southOf, upOf, unmarked, is-settled, no-east, no-south, no-up}
 use Rattle.merge.proofs.Peace.{Still, Rests, rests, neither, sees-still, sees-none, kept, bit-kept, over-kept}
@@ -72,7 +72,7 @@ even-from : (x : ℕ) (a b : Node) (m : ℕ) → uneven x a b ≡ false → b .m
 even-from x a b m e f t = one-mark-back (a .mark) (b .mark) m (subst (λ (y : Bool). y && differ (a .mark) (b .mark) ≡ false) t e) f
 
 module _ (w : Window) (g : ℕ) (l : g < size w)
-    (calm : getD (stirred (w .shape .distance + 1) (w .shape .height * (w .shape .distance + 1)) (w .nodes) (w .growth) (size w)) (g + 240) false ≡ false) where
+    (calm : getD (stirred (w .shape .distance + 1) (w .shape .height * (w .shape .distance + 1)) (w .nodes) (w .growth) (size w)) (g + margin) false ≡ false) where
   abbrev h : ℕ
   h = w .shape .height
 
@@ -92,8 +92,8 @@ module _ (w : Window) (g : ℕ) (l : g < size w)
   stand = stands h d (peopled h d g l) g l
 
   -- none of the nodes marked it
-  none : (j k : ℕ) → j < size w → k < 7 → spotOf (d + 1) (h * (d + 1)) (w .nodes) (w .growth) j k ≡ g + 240 → bitOf (d + 1) (h * (d + 1)) (w .nodes) (w .growth) j k ≡ false
-  none j k m n e = unmarked (d + 1) (h * (d + 1)) (w .nodes) (w .growth) (size w) j m (room h d j m) k n (g + 240) calm e
+  none : (j k : ℕ) → j < size w → k < 7 → spotOf (d + 1) (h * (d + 1)) (w .nodes) (w .growth) j k ≡ g + margin → bitOf (d + 1) (h * (d + 1)) (w .nodes) (w .growth) j k ≡ false
+  none j k m n e = unmarked (d + 1) (h * (d + 1)) (w .nodes) (w .growth) (size w) j m (room h d j m) k n (g + margin) calm e
 
   abbrev east-edge : ℕ → Bool
   east-edge j = eastOf (d + 1) (h * (d + 1)) (w .nodes) (w .growth) j
@@ -104,12 +104,12 @@ module _ (w : Window) (g : ℕ) (l : g < size w)
   abbrev up-edge : ℕ → Bool
   up-edge j = upOf (d + 1) (h * (d + 1)) (w .nodes) (w .growth) j
 
-  is-quiet : quiet (g + 240) (d + 1) (h * (d + 1)) (at w g) (east-edge g) (south-edge g) (up-edge g) ≡ true
+  is-quiet : quiet (g + margin) (d + 1) (h * (d + 1)) (at w g) (east-edge g) (south-edge g) (up-edge g) ≡ true
   unfolding bit spot
   is-quiet = not-false _ (none g 0 l (omega arith) refl)
 
   rest : Rests (at w g)
-  rest = rests (at w g) (is-settled (g + 240) (d + 1) (h * (d + 1)) (at w g) (east-edge g) (south-edge g) (up-edge g) is-quiet)
+  rest = rests (at w g) (is-settled (g + margin) (d + 1) (h * (d + 1)) (at w g) (east-edge g) (south-edge g) (up-edge g) is-quiet)
 
   abbrev m : ℕ
   m = rest .number
@@ -128,14 +128,14 @@ module _ (w : Window) (g : ℕ) (l : g < size w)
   -- over an edge that it names
   own : (x j i : ℕ) → uneven x (at w g) (at w (within i)) ≡ false → i ≡ j → j < size w → eqb x 2 ≡ true → at w j .mark ≡ Root m
   own x j i e q n t =
-      let a : i < 3600 = omega (arith, n, nodes-max h d) in
+      let a : i < maxNodes = omega (arith, n, nodes-max h d) in
       let z : within i ≡ j = within-is i a ∙ q in
       subst (λ (y : ℕ). at w y .mark ≡ Root m) z (even-to x (at w g) (at w (within i)) m e (rest .mark) t)
 
   -- over an edge that its other end j names
   others : (x j i : ℕ) → uneven x (at w j) (at w (within i)) ≡ false → i ≡ g → eqb x 2 ≡ true → at w j .mark ≡ Root m
   others x j i e q t =
-      let a : i < 3600 = omega (arith, l, nodes-max h d) in
+      let a : i < maxNodes = omega (arith, l, nodes-max h d) in
       let z : within i ≡ g = within-is i a ∙ q in
       even-from x (at w j) (at w (within i)) m e (subst (λ (y : ℕ). at w y .mark ≡ Root m) (sym z) (rest .mark)) t
 
@@ -149,7 +149,7 @@ module _ (w : Window) (g : ℕ) (l : g < size w)
         let i = north-index h d here g stand e in
         let j = g - (d + 1) in
         let n : j < size w = omega (arith, l) in
-        let q : j + 240 + (d + 1) ≡ g + 240 = omega (arith, i) in
+        let q : j + margin + (d + 1) ≡ g + margin = omega (arith, i) in
         let o : j + (d + 1) ≡ g = omega (arith, i) in
         let f = neither (south-edge j) (loud (at w j)) (none j 2 n (omega arith) q) in
         a-way 0 j (3 * j + 1) true (north-way h d here g stand e there t) (omega arith) (others (getD (w .growth) (3 * j + 1) 0) j (j + (d + 1)) (f .0) o) (f .1))
@@ -166,7 +166,7 @@ module _ (w : Window) (g : ℕ) (l : g < size w)
         let i = west-index h d here g stand c in
         let j = g - 1 in
         let n : j < size w = omega (arith, l) in
-        let q : j + 240 + 1 ≡ g + 240 = omega (arith, i) in
+        let q : j + margin + 1 ≡ g + margin = omega (arith, i) in
         let o : j + 1 ≡ g = omega (arith, i) in
         let f = neither (east-edge j) (loud (at w j)) (none j 1 n (omega arith) q) in
         let z : 3 * j + 0 ≡ 3 * j = omega arith in
@@ -182,9 +182,9 @@ module _ (w : Window) (g : ℕ) (l : g < size w)
         let c = less (here .column) d (stand .inside .column) (eqb-false (here .column) d e) in
         let y = east-way h d here g stand c there t in
         let n = leads-in h d there 3 here _ few y refl g l in
-        let q : g + 1 + 240 - 1 ≡ g + 240 = omega arith in
+        let q : g + 1 + margin - 1 ≡ g + margin = omega arith in
         let z : 3 * g + 0 ≡ 3 * g = omega arith in
-        let f = no-east (g + 240) (d + 1) (h * (d + 1)) (at w g) (east-edge g) (south-edge g) (up-edge g) is-quiet in
+        let f = no-east (g + margin) (d + 1) (h * (d + 1)) (at w g) (east-edge g) (south-edge g) (up-edge g) is-quiet in
         a-way 2 (g + 1) (3 * g + 0) (not (eqb (here .column + 1) d)) y (omega arith) (rw z (own (getD (w .growth) (3 * g) 0) (g + 1) (g + 1) f refl n)) (none (g + 1) 4 n (omega arith) q))
         (tell (eqb (here .column) d))
 
@@ -196,8 +196,8 @@ module _ (w : Window) (g : ℕ) (l : g < size w)
         let y = south-way h d here g stand e there t in
         let j = g + (d + 1) in
         let n = leads-in h d there 4 here _ few y refl g l in
-        let q : j + 240 - (d + 1) ≡ g + 240 = omega arith in
-        let f = no-south (g + 240) (d + 1) (h * (d + 1)) (at w g) (east-edge g) (south-edge g) (up-edge g) is-quiet in
+        let q : j + margin - (d + 1) ≡ g + margin = omega arith in
+        let f = no-south (g + margin) (d + 1) (h * (d + 1)) (at w g) (east-edge g) (south-edge g) (up-edge g) is-quiet in
         a-way 3 j (3 * g + 1) true y (omega arith) (own (getD (w .growth) (3 * g + 1) 0) j j f refl n) (none j 5 n (omega arith) q))
         (λ e. no-way 3 (south-none h d here g stand there e))
         (tell (not (boundary d (here .column)) && ltb (here .row + 1) h))
@@ -210,7 +210,7 @@ module _ (w : Window) (g : ℕ) (l : g < size w)
         let y = down-way h d here g stand there e in
         let j = g + h * (d + 1) in
         let n = leads-in h d there 5 here _ few y refl g l in
-        let q : j + 240 - h * (d + 1) ≡ g + 240 = omega arith in
+        let q : j + margin - h * (d + 1) ≡ g + margin = omega arith in
         let o : j - h * (d + 1) ≡ g = omega arith in
         let f = neither (up-edge j) (loud (at w j)) (none j 3 n (omega arith) q) in
         a-way 4 j (3 * j + 2) true y (omega arith) (others (getD (w .growth) (3 * j + 2) 0) j (j - h * (d + 1)) (f .0) o) (f .1))
@@ -224,8 +224,8 @@ module _ (w : Window) (g : ℕ) (l : g < size w)
         (λ e.
         let j = g - h * (d + 1) in
         let n : j < size w = omega (arith, l) in
-        let q : j + 240 + h * (d + 1) ≡ g + 240 = omega (arith, up-index h d here g stand e) in
-        let f = no-up (g + 240) (d + 1) (h * (d + 1)) (at w g) (east-edge g) (south-edge g) (up-edge g) is-quiet in
+        let q : j + margin + h * (d + 1) ≡ g + margin = omega (arith, up-index h d here g stand e) in
+        let f = no-up (g + margin) (d + 1) (h * (d + 1)) (at w g) (east-edge g) (south-edge g) (up-edge g) is-quiet in
         a-way 5 j (3 * g + 2) true (up-way h d here g stand e there t) (omega arith) (own (getD (w .growth) (3 * g + 2) 0) j j f refl n) (none j 6 n (omega arith) q))
         (λ e. no-way 5 (up-none h d here g stand there e))
         (tell (not (boundary d (here .column)) && ltb 0 (here .depth)))

@@ -2,6 +2,7 @@
 use shape::Found;
 use shape::Place;
 use shape::Shape;
+use stir::MARGIN;
 use window::Window;
 ghost use mathlib.Core.Path.{_≡_};
 ghost use Prim.Native.Nat.{_<_};
@@ -40,7 +41,7 @@ pub fn merge(w: Window) -> Window
     let mut busy = false;
     let mut g: usize = 0;
     'nodes: while g < n {
-        if !stirred[g + 240] {
+        if !stirred[g + MARGIN] {
             g += 1;
             continue 'nodes;
         }

@@ -1,5 +1,5 @@
 -- What is made of the shape that a height and a distance name, from the bytes that stand for them. Assumes nothing.
-use Prim.Native.Nat.{ℕ}
+use Prim.Native.Nat.{ℕ, _<_}
 use mathlib.Core.Path.{_≡_, refl, sym, _∙_, ap}
 use mathlib.Core.Bool.{Bool, true, false, _&&_, and-false}
 use mathlib.Core.List.{List, [], _∷_}
@@ -13,7 +13,7 @@ use Rattle.refusal.specs.Writing.{writing}
 use Rattle.refusal.specs.declared.Refusal.{Refusal}
 use Rattle.list.specs.Sheet.{listed, areBits, readInto}
 use Rattle.shape.specs.Choice.{whether, if-true, if-false}
-use Rattle.shape.specs.Sizes.{heightOk, distanceOk, shapeOf, detectorsOf, layerEdgesOf}
+use Rattle.shape.specs.Sizes.{maxHeight, maxDistance, heightOk, distanceOk, shapeOf, detectorsOf, layerEdgesOf}
 use Rattle.shape.specs.declared.Shape.{Shape}
 use Rattle.record.specs.Records.{Result, header, result, roundAt, resultAt}
 use Rattle.record.specs.Calls.{defectsTest, edgesTest, escapesTest, readIntoBoth, writeHeader, readRound, writeRound, readResult, writeResult}
@@ -47,8 +47,8 @@ sized height distance of e k z =
 
 -- BYTES: a shape that no bytes hold is refused as the one that stands for it is
 
-past : (least n : ℕ) → ltb n 256 ≡ false → (leb least n && leb n 15) ≡ false
-past least n e = ap (λ (b : Bool). leb least n && b) (lt-leb n 15 (omega (arith, ltb-false n 256 e))) ∙ and-false (leb least n)
+past : (least most n : ℕ) → most < 256 → ltb n 256 ≡ false → (leb least n && leb n most) ≡ false
+past least most n l e = ap (λ (b : Bool). leb least n && b) (lt-leb n most (omega (arith, ltb-false n 256 e))) ∙ and-false (leb least n)
 
 module _ {X : Type 0} (by : Bool → Bool → Shape → X)
     (low : (b c : Bool) (x y : Shape) → by false b x ≡ by false c y) (narrow : (x y : Shape) → by true false x ≡ by true false y) where
@@ -65,7 +65,7 @@ module _ {X : Type 0} (by : Bool → Bool → Shape → X)
       (λ e. ap (λ (k : ℕ). named h k) (if-true (ltb d 256) d 255 e))
       (λ e. ap (λ (k : ℕ). named h k) (if-false (ltb d 256) d 255 e)
       ∙ unnamed (heightOk h) (shapeBy h 255) (shapeBy h d)
-      ∙ sym (ap (λ (b : Bool). by (heightOk h) b (shapeBy h d)) (past 2 d e)))
+      ∙ sym (ap (λ (b : Bool). by (heightOk h) b (shapeBy h d)) (past 2 maxDistance d (omega arith) e)))
 
   clip-height : (h d : ℕ) → named (clip h) d ≡ named h d
   clip-height h d =
@@ -73,7 +73,7 @@ module _ {X : Type 0} (by : Bool → Bool → Shape → X)
       (λ e. ap (λ (k : ℕ). named k d) (if-true (ltb h 256) h 255 e))
       (λ e. ap (λ (k : ℕ). named k d) (if-false (ltb h 256) h 255 e)
       ∙ low (distanceOk d) (distanceOk d) (shapeBy 255 d) (shapeBy h d)
-      ∙ sym (ap (λ (b : Bool). by b (distanceOk d) (shapeBy h d)) (past 1 h e)))
+      ∙ sym (ap (λ (b : Bool). by b (distanceOk d) (shapeBy h d)) (past 1 maxHeight h (omega arith) e)))
 
   clipped : (h d : ℕ) → named (clip h) (clip d) ≡ named h d
   clipped h d = clip-height h (clip d) ∙ clip-distance h d

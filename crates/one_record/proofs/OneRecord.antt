@@ -17,6 +17,7 @@ use Rattle.list.specs.declared.Listed.the-variants as listed
 use Rattle.steps.specs.Steps.{base}
 use Rattle.record.specs.Laws.{before-end}
 use Rattle.record.specs.Records.{roundAt}
+use Rattle.window.specs.Window.{maxNext}
 use Rattle.window.specs.Calls.{callAnswer}
 use Rattle.window.specs.Formed.{wellFormed}
 use Rattle.window.specs.declared.Called.{Called}
@@ -63,7 +64,7 @@ module _ (s : List ℕ) (w : Window) (at : ℕ) (old : List ℕ) (to : ℕ) wher
       pub record-end : length s ≤ at → recordReturned (over finished) w old ≡ whole
       record-end l = as-record (stopped finished) (record-ends base s (length old) w at to pass l)
 
-      pub record-late : at < length s → 4294967295 ≤ w .next → recordReturned (over (turnedBack (plain 23))) w old ≡ whole
+      pub record-late : at < length s → maxNext ≤ w .next → recordReturned (over (turnedBack (plain 23))) w old ≡ whole
       record-late more l = as-record (stopped (turnedBack (plain 23))) (record-last base s (length old) w at to pass more l)
 
   module _ (q : Listed) (new : List ℕ) (r : Read s w at old to q new) where

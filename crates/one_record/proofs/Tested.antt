@@ -11,7 +11,7 @@ use Rattle.refusal.specs.Answer.{Answer, done, refused, unless}
 use Rattle.refusal.specs.Tests.{Passes, Turned, tests-turned}
 use Rattle.refusal.specs.declared.Refusal.{Refusal}
 use Rattle.steps.specs.Steps.{base}
-use Rattle.window.specs.Window.{isRest}
+use Rattle.window.specs.Window.{isRest, maxNext}
 use Rattle.window.specs.Formed.{wellFormed}
 use Rattle.window.specs.Calls.{callAnswer}
 use Rattle.window.specs.declared.Called.{Called}
@@ -64,7 +64,7 @@ module _ (s : List ℕ) (size : ℕ) (w : Window) (at to : ℕ) where
   pub record Fine : Type 0 where
     pub formed : wellFormed base w ≡ true
     pub rest : isRest (w .stage) ≡ true
-    pub next : w .next < 4294967295
+    pub next : w .next < maxNext
     pub inside : at < length s
     pub room : to ≤ size
 
@@ -82,5 +82,5 @@ module _ (s : List ℕ) (size : ℕ) (w : Window) (at to : ℕ) where
       pub tests-pass : Passes tests
       tests-pass = hold-pass tests held
 
-      pub passed-fine : at < length s → w .next < 4294967295 → Fine
+      pub passed-fine : at < length s → w .next < maxNext → Fine
       passed-fine more early = record { formed = held .0; rest = held .1 .0; next = early; inside = more; room = leb-true _ _ (held .1 .1 .1 .0) }

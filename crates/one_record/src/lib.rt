@@ -4,7 +4,9 @@ use decoding::Record;
 use decoding::RecordGiven;
 use list::Listed;
 use refusal::Refusal;
+use shape::MAX_DETECTORS;
 use window::Called;
+use window::MAX_NEXT;
 use window::Window;
 ghost use mathlib.Core.Path.{_≡_};
 ghost use mathlib.Core.Bool.{true};
@@ -14,7 +16,7 @@ ghost use Rattle.refusal.specs.Answer.{done, unless};
 ghost use Rattle.steps.specs.Steps.{base};
 ghost use Rattle.window.specs.Calls.{callAnswer};
 ghost use Rattle.window.specs.Formed.{wellFormed};
-ghost use Rattle.window.specs.Window.{isRest};
+ghost use Rattle.window.specs.Window.{isRest, maxNext};
 ghost use Rattle.decoding.specs.Decoding.{recordTests};
 ghost use Rattle.decoding.specs.Answers.{recordAnswer, recordReturned, recordLeaves};
 
@@ -40,13 +42,13 @@ fn test_record(w: Window, src: &[u8], at: usize, size: usize, to: usize) -> Call
 fn decode_read(w: Window, src: &[u8], at: usize, out: &mut [u8], to: usize) -> RecordGiven
     requires { ⌜ wellFormed base w ≡ true ⌝ }
     requires { ⌜ isRest (w .stage) ≡ true ⌝ }
-    requires { ⌜ w .next < 4294967295 ⌝ }
+    requires { ⌜ w .next < maxNext ⌝ }
     requires { ⌜ at < length (now src) ⌝ }
     requires { ⌜ to ≤ length (now out) ⌝ }
     ensures { λ r. ⌜ recordReturned (recordAnswer (r .answer)) (r .window) (now (out .exit)) ≡ recordLeaves base (now (src .entry)) w at (now (out .entry)) to ⌝ }
 {
     let n = shape::detectors(w.shape);
-    let mut bytes = [0; 210];
+    let mut bytes = [0; MAX_DETECTORS];
     match list::read_list(src, at, &mut bytes[..n]) {
         Listed::Refused(f) => RecordGiven {
             answer: Record::Stopped(Ending::Refused(f)),
@@ -75,7 +77,7 @@ pub fn decode_formed(w: Window, src: &[u8], at: usize, out: &mut [u8], to: usize
             window: w,
         };
     }
-    if next == 4294967295 {
+    if next == MAX_NEXT {
         return RecordGiven {
             answer: Record::Stopped(Ending::Refused(Refusal::LastRound)),
             window: w,

@@ -5,7 +5,7 @@ use native.Mathlib.Omega.{arith}
 use mathlib.Core.Path.{_≡_, sym, _∙_, ap}
 use mathlib.Core.List.{List, [], _∷_, _++_}
 use lib.ListN.{length, drop, getD, length-append, length-drop}
-use lib.Seq.{getD-drop, drop-cons, drop-drop}
+use lib.Seq.{drop-cons, drop-drop}
 
 -- each element is below 256
 abbrev pub Bytes : List ℕ → Type 0

@@ -15,18 +15,21 @@
 //   entry I A D U P M        node I in the internal order: active, defect, unrooted (0 or 1), pointer, mark (65,536 or more: reset),
 //   halves I N               the growth at I,
 //   flip I B                 the correction bit at I,
-//   last I B                 the bit at I of the last measured sheet (I below 210; otherwise nothing).
+//   last I B                 the bit at I of the last measured sheet (nothing if it has none there).
 //   # ..                     is written as it stands.
 //
 // A line is written for each call and each edit: its name; `done`, `busy`, `rest`, of a run `rest` or `spent` and the count of steps, or
 // `refused` and the number; of a round, raw or not, the two buffers after the call, a digit a byte (`?` from 10 on); a digest of all the
-// window but the last measured sheet; and that sheet's 210 bits as a binary number, the first one highest, modulo a prime, in decimal.
+// window but the last measured sheet; and that sheet's bits as a binary number, the first one highest, modulo a prime, in decimal.
 use calls::Merged;
 use calls::Outcome;
 use libc::STDOUT_FILENO;
+use shape::MAX_DETECTORS;
+use shape::MAX_NODES;
 use shape::Shape;
 use window::Called;
 use window::Given;
+use window::MAX_SLOTS;
 use window::Mark;
 use window::Node;
 use window::Stage;
@@ -34,6 +37,11 @@ use window::Window;
 ghost use mathlib.Core.Path.{_≡_};
 ghost use Prim.Native.Nat.{_≤_};
 ghost use lib.ListN.{length};
+
+// The bytes of the library's large buffer, which holds the script.
+const SCRIPT_BYTES: usize = 65536;
+
+const LAST: usize = SCRIPT_BYTES - 1;
 
 // A number of the script, and the offset behind it.
 struct Read {
@@ -87,7 +95,7 @@ fn mix_node(digest: u64, node: Node) -> u64 {
 fn mix_nodes(digest: u64, w: Window) -> u64 {
     let mut sum = digest;
     let mut g: usize = 0;
-    while g < 3600 {
+    while g < MAX_NODES {
         let node = w.nodes[g];
         sum = mix_node(sum, node);
         g += 1;
@@ -95,20 +103,20 @@ fn mix_nodes(digest: u64, w: Window) -> u64 {
     sum
 }
 
-fn mix_growth(digest: u64, growth: &[u8; 10800]) -> u64 {
+fn mix_growth(digest: u64, growth: &[u8; MAX_SLOTS]) -> u64 {
     let mut sum = digest;
     let mut e: usize = 0;
-    while e < 10800 {
+    while e < MAX_SLOTS {
         sum = mix(sum, wide(growth[e]));
         e += 1;
     }
     sum
 }
 
-fn mix_correction(digest: u64, correction: &[bool; 10800]) -> u64 {
+fn mix_correction(digest: u64, correction: &[bool; MAX_SLOTS]) -> u64 {
     let mut sum = digest;
     let mut e: usize = 0;
-    while e < 10800 {
+    while e < MAX_SLOTS {
         sum = mix(sum, one(correction[e]));
         e += 1;
     }
@@ -132,10 +140,10 @@ fn append(sum: u64, set: bool) -> u64 {
     ((sum % 36028797018963913) * 2 + one(set) % 2) % 36028797018963913
 }
 
-fn fold_measured(measured: &[bool; 210]) -> u64 {
+fn fold_measured(measured: &[bool; MAX_DETECTORS]) -> u64 {
     let mut sum: u64 = 0;
     let mut i: usize = 0;
-    while i < 210 {
+    while i < MAX_DETECTORS {
         sum = append(sum, measured[i]);
         i += 1;
     }
@@ -223,7 +231,7 @@ fn say_buffer(buffer: &mut [u8]) {
     say(b" ");
 }
 
-// THE SCRIPT
+// THE SCRIPT_BYTES
 
 fn is_digit(x: u8) -> bool {
     (48 <= x) & (x <= 57)
@@ -237,9 +245,9 @@ fn value_of(x: u8) -> u8 {
 }
 
 // The first digit from an offset on.
-fn digit_from(script: &[u8; 65536], from: usize) -> usize {
+fn digit_from(script: &[u8; SCRIPT_BYTES], from: usize) -> usize {
     let mut i = from;
-    while i < 65536 {
+    while i < SCRIPT_BYTES {
         if is_digit(script[i]) {
             return i;
         }
@@ -249,9 +257,9 @@ fn digit_from(script: &[u8; 65536], from: usize) -> usize {
 }
 
 // The first byte from an offset on that ends a line.
-fn line_end(script: &[u8; 65536], from: usize) -> usize {
+fn line_end(script: &[u8; SCRIPT_BYTES], from: usize) -> usize {
     let mut i = from;
-    while i < 65536 {
+    while i < SCRIPT_BYTES {
         if script[i] == b'\n' {
             return i;
         }
@@ -270,10 +278,10 @@ fn narrow(value: u64) -> u32 {
 }
 
 // The next number from an offset on.
-fn number(script: &[u8; 65536], from: usize) -> Read {
+fn number(script: &[u8; SCRIPT_BYTES], from: usize) -> Read {
     let mut i = digit_from(script, from);
     let mut value: u64 = 0;
-    while i < 65536 {
+    while i < SCRIPT_BYTES {
         let x = script[i];
         if !is_digit(x) {
             return Read {
@@ -291,16 +299,16 @@ fn number(script: &[u8; 65536], from: usize) -> Read {
 }
 
 // The digits behind an offset, one a byte, at most 256 and as many as `out` holds; how many there are.
-fn digits(script: &[u8; 65536], from: usize, out: &mut [u8]) -> usize
+fn digits(script: &[u8; SCRIPT_BYTES], from: usize, out: &mut [u8]) -> usize
     ensures { λ r. ⌜ r ≤ 256 ⌝ }
 {
-    if 65536 <= from {
+    if SCRIPT_BYTES <= from {
         return 0;
     }
     let mut i = from + 1;
     let mut n: usize = 0;
     while n < 256 {
-        if 65536 <= i {
+        if SCRIPT_BYTES <= i {
             return n;
         }
         if out.len() <= n {
@@ -323,7 +331,7 @@ fn byte(x: u32) -> u8 {
 
 // THE CALLS
 
-fn open(script: &[u8; 65536], from: usize) -> Window {
+fn open(script: &[u8; SCRIPT_BYTES], from: usize) -> Window {
     let height = number(script, from);
     let distance = number(script, height.at);
     let given = fresh::fresh(height.value, distance.value);
@@ -365,7 +373,7 @@ fn escape_marks() -> [u8; 256]
     [7; 256]
 }
 
-fn round(script: &[u8; 65536], from: usize, raw: bool, w: Window) -> Window {
+fn round(script: &[u8; SCRIPT_BYTES], from: usize, raw: bool, w: Window) -> Window {
     let edges = number(script, from);
     let escapes = number(script, edges.at);
     let mut bytes = escape_marks();
@@ -470,7 +478,7 @@ fn mark_of(code: u32) -> Mark {
 }
 
 // A node by the numbers that are next in the script.
-fn node_of(script: &[u8; 65536], from: usize) -> Node {
+fn node_of(script: &[u8; SCRIPT_BYTES], from: usize) -> Node {
     let active = number(script, from);
     let defect = number(script, active.at);
     let unrooted = number(script, defect.at);
@@ -487,7 +495,7 @@ fn node_of(script: &[u8; 65536], from: usize) -> Node {
 
 fn set_node(w: Window, i: usize, node: Node) -> Window {
     let mut v = w;
-    if i < 3600 {
+    if i < MAX_NODES {
         v.nodes[i] = node;
     }
     v
@@ -495,7 +503,7 @@ fn set_node(w: Window, i: usize, node: Node) -> Window {
 
 fn set_halves(w: Window, i: usize, halves: u8) -> Window {
     let mut v = w;
-    if i < 10800 {
+    if i < MAX_SLOTS {
         v.growth[i] = halves;
     }
     v
@@ -503,7 +511,7 @@ fn set_halves(w: Window, i: usize, halves: u8) -> Window {
 
 fn set_bit(w: Window, i: usize, bit: bool) -> Window {
     let mut v = w;
-    if i < 10800 {
+    if i < MAX_SLOTS {
         v.correction[i] = bit;
     }
     v
@@ -511,14 +519,14 @@ fn set_bit(w: Window, i: usize, bit: bool) -> Window {
 
 fn set_measured(w: Window, i: usize, bit: bool) -> Window {
     let mut v = w;
-    if i < 210 {
+    if i < MAX_DETECTORS {
         v.measured[i] = bit;
     }
     v
 }
 
 // An edit by its letter.
-fn edit(script: &[u8; 65536], from: usize, letter: u8, w: Window) -> Window {
+fn edit(script: &[u8; SCRIPT_BYTES], from: usize, letter: u8, w: Window) -> Window {
     let first = number(script, from);
     let second = number(script, first.at);
     let i = first.value as usize;
@@ -535,15 +543,15 @@ fn edit(script: &[u8; 65536], from: usize, letter: u8, w: Window) -> Window {
 }
 
 // The byte behind an offset.
-fn second(script: &[u8; 65536], from: usize) -> u8 {
-    if 65535 <= from {
+fn second(script: &[u8; SCRIPT_BYTES], from: usize) -> u8 {
+    if LAST <= from {
         return 0;
     }
     script[from + 1]
 }
 
 // The command of a letter, and the window after it.
-fn command(script: &[u8; 65536], from: usize, letter: u8, w: Window) -> Window {
+fn command(script: &[u8; SCRIPT_BYTES], from: usize, letter: u8, w: Window) -> Window {
     match letter {
         b'o' => open(script, from),
         b'r' => {
@@ -564,9 +572,9 @@ fn command(script: &[u8; 65536], from: usize, letter: u8, w: Window) -> Window {
 }
 
 // Writes a line as it stands.
-fn echo(script: &[u8; 65536], from: usize) {
+fn echo(script: &[u8; SCRIPT_BYTES], from: usize) {
     let mut i = from;
-    while i < 65536 {
+    while i < SCRIPT_BYTES {
         let x = [script[i]];
         say(&x);
         if script[i] == b'\n' {
@@ -577,7 +585,7 @@ fn echo(script: &[u8; 65536], from: usize) {
 }
 
 // The line at an offset, and the window after it.
-fn line(script: &[u8; 65536], from: usize, letter: u8, w: Window) -> Window {
+fn line(script: &[u8; SCRIPT_BYTES], from: usize, letter: u8, w: Window) -> Window {
     if letter == b'#' {
         echo(script, from);
         return w;
@@ -593,7 +601,7 @@ fn main() {
     let given = fresh::fresh(1, 2);
     let mut window = given.window;
     let mut at: usize = 0;
-    while at < 65536 {
+    while at < SCRIPT_BYTES {
         let letter = script[at];
         if letter == 0 {
             return;
@@ -603,7 +611,7 @@ fn main() {
         if end < at {
             return;
         }
-        if 65536 <= end {
+        if SCRIPT_BYTES <= end {
             return;
         }
         at = end + 1;

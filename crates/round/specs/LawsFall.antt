@@ -10,7 +10,7 @@ use borrow.Author.Tests.{lt-ltb, le-ltb, eq-eqb, ne-eqb, le-leb, lt-leb}
 use lib.Dec.{ltb, leb, eqb}
 use lib.ListN.{getD, drop}
 use Rattle.shape.specs.Choice.{if, if-true, if-false, order}
-use Rattle.shape.specs.Sizes.{inRange, nodesOf, sheetsOf, boundary, detectorsOf}
+use Rattle.shape.specs.Sizes.{maxHeight, inRange, nodesOf, sheetsOf, boundary, detectorsOf, maxSheets, maxDetectors}
 use Rattle.shape.specs.Ranges.{Ranged, ranged, in-range, nodes-of, sheets-le}
 use Rattle.shape.specs.Boundaries.{between}
 use Rattle.shape.specs.Counting.{Inside, within-place, before}
@@ -30,20 +30,20 @@ use Rattle.slots.specs.LawsSlots.{new-top, new-time, no-time, lower}
 -- A MARK'S NUMBER, in a shape of s sheets, and that nothing wraps on the way
 
 module _ (h d s : ℕ) (r : Ranged h d) (e : s ≡ sheetsOf d) where
-  few : s ≤ 15
-  few = omega (arith, sheets-le d (r .d15))
+  few : s ≤ maxSheets
+  few = omega (arith, sheets-le d (r .d-max))
 
-  pub sides-le : 2 * h * s ≤ 450
-  sides-le = let a : 2 * h ≤ 30 = omega (arith, r .h15) in mul-le-mul {n₂ = 30} {m₂ = 15} a few
+  pub sides-le : 2 * h * s ≤ 2 * maxHeight * maxSheets
+  sides-le = let a : 2 * h ≤ 2 * maxHeight = omega (arith, r .h-max) in mul-le-mul a few
 
-  pub boundary-le : 2 * h * (s + 1) ≤ 480
+  pub boundary-le : 2 * h * (s + 1) ≤ 2 * maxHeight * (maxSheets + 1)
   boundary-le =
-      let a : 2 * h ≤ 30 = omega (arith, r .h15) in
-      let b : s + 1 ≤ 16 = omega (arith, few) in
-      mul-le-mul {n₂ = 30} {m₂ = 16} a b
+      let a : 2 * h ≤ 2 * maxHeight = omega (arith, r .h-max) in
+      let b : s + 1 ≤ maxSheets + 1 = omega (arith, few) in
+      mul-le-mul a b
 
-  pub inner-le : h * (d - 1) * s ≤ 3150
-  inner-le = mul-le-mul {n₂ = 210} {m₂ = 15} (detectors-le h d r) few
+  pub inner-le : h * (d - 1) * s ≤ maxDetectors * maxSheets
+  inner-le = mul-le-mul (detectors-le h d r) few
 
   module _ (m : ℕ) where
     lowers : if (ltb m (2 * h * s)) (m + 2 * h) (if (ltb m (2 * h * (s + 1))) m (if (ltb m (2 * h * (s + 1) + h * (d - 1) * s)) (m + h * (d - 1)) m)) ≡ loweredNumber h d m

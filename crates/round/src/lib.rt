@@ -11,6 +11,7 @@ ghost use Prim.Native.Nat.{_<_};
 ghost use lib.ListN.{length};
 ghost use Rattle.shape.specs.Sizes.{inRange, detectorsOf, layerEdgesOf};
 ghost use Rattle.steps.specs.Steps.{base};
+ghost use Rattle.window.specs.Window.{maxNext};
 ghost use Rattle.walk.specs.Walk.{Stands};
 ghost use Rattle.slots.specs.Slots.{sheetNodes};
 ghost use Rattle.window.specs.Round.{loweredNumber, lowered, sunk, topNode, rounded};
@@ -87,7 +88,7 @@ fn sheet_nodes(shape: Shape) -> usize
 
 // The window one sheet lower, with a new top sheet.
 fn sink(w: Window, bytes: &[u8]) -> Window
-    requires { ⌜ w .next < 4294967295 ⌝ }
+    requires { ⌜ w .next < maxNext ⌝ }
     requires { ⌜ length (now bytes) ≡ detectorsOf (w .shape .height) (w .shape .distance) ⌝ }
     ensures { λ r. ⌜ r ≡ rounded base w (now (bytes .entry)) ⌝ }
 {
@@ -130,7 +131,7 @@ fn sink(w: Window, bytes: &[u8]) -> Window
 // A round received with these defects.
 pub fn round(w: Window, defects: &[u8], edges: &mut [u8], escapes: &mut [u8]) -> Window
     requires { ⌜ inRange (w .shape .height) (w .shape .distance) ≡ true ⌝ }
-    requires { ⌜ w .next < 4294967295 ⌝ }
+    requires { ⌜ w .next < maxNext ⌝ }
     requires { ⌜ length (now defects) ≡ detectorsOf (w .shape .height) (w .shape .distance) ⌝ }
     requires { ⌜ length (now edges) ≡ layerEdgesOf (w .shape .height) (w .shape .distance) ⌝ }
     requires { ⌜ length (now escapes) ≡ detectorsOf (w .shape .height) (w .shape .distance) ⌝ }

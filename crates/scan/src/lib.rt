@@ -13,6 +13,8 @@ use record::HeaderRead;
 use record::ResultRead;
 use record::RoundRead;
 use refusal::Refusal;
+use shape::MAX_DETECTORS;
+use shape::MAX_LAYER_EDGES;
 use shape::Shape;
 
 // What reading a whole stream finds: its shape and how many rounds it has, or why it is refused.
@@ -40,7 +42,7 @@ fn pass_input(shape: Shape, src: &[u8], at: usize) -> RoundRead
     ensures { λ r. ⌜ roundAnswer r ≡ withoutValue (roundOf (now (src .entry)) shape at) ⌝ }
 {
     let detectors = shape::detectors(shape);
-    let mut defects = [0u8; 210];
+    let mut defects = [0u8; MAX_DETECTORS];
     input::read_round(shape, src, at, &mut defects[..detectors])
 }
 
@@ -52,8 +54,8 @@ fn pass_result(shape: Shape, src: &[u8], at: usize) -> RoundRead
 {
     let layer = shape::layer_edges(shape);
     let detectors = shape::detectors(shape);
-    let mut edges = [0u8; 631];
-    let mut escapes = [0u8; 210];
+    let mut edges = [0u8; MAX_LAYER_EDGES];
+    let mut escapes = [0u8; MAX_DETECTORS];
     match result::read_result(
         shape,
         src,

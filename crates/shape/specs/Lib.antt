@@ -7,7 +7,6 @@ pub mod Ranges
 pub mod Counting
 pub mod LawsSizes
 pub mod Totals
-pub mod NodeTable
 pub mod Boundaries
 pub mod LawsIndex
 pub mod LawsNumber

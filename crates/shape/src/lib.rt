@@ -6,6 +6,24 @@ ghost use Rattle.shape.specs.Sizes.{heightOk, distanceOk, inRange, shape
 ghost use Rattle.shape.specs.Nodes.{side as sideOf, numberOf, indexOf, indexedIn, placeIn};
 ghost use Rattle.shape.specs.Limits.{Factors, Product, Splits};
 
+// The largest height and distance. The arrays of a window and the buffers of a round are made for a shape of both.
+pub const MAX_HEIGHT: usize = 15;
+
+pub const MAX_DISTANCE: usize = 15;
+
+// Its sheets, the nodes of one and of all, the detectors of a sheet and the edges of a layer.
+const MAX_SHEETS: usize = 2 * (MAX_DISTANCE / 2) + 1;
+
+pub const MAX_SHEET_NODES: usize = MAX_HEIGHT * (MAX_DISTANCE + 1);
+
+pub const MAX_NODES: usize = MAX_SHEET_NODES * MAX_SHEETS;
+
+pub const MAX_DETECTORS: usize = MAX_HEIGHT * (MAX_DISTANCE - 1);
+
+pub const MAX_LAYER_EDGES: usize = MAX_HEIGHT * MAX_DISTANCE
+    + (MAX_HEIGHT - 1) * (MAX_DISTANCE - 1)
+    + MAX_DETECTORS;
+
 pub struct Shape {
     pub height: u8,
     pub distance: u8,
@@ -33,228 +51,8 @@ pub enum Found {
     Nowhere,
 }
 
-// The nodes of each shape: fourteen for each height from 1, distances 2 to 15.
-const NODES: [u16; 210] = [
-    9,
-    12,
-    25,
-    30,
-    49,
-    56,
-    81,
-    90,
-    121,
-    132,
-    169,
-    182,
-    225,
-    240,
-    18,
-    24,
-    50,
-    60,
-    98,
-    112,
-    162,
-    180,
-    242,
-    264,
-    338,
-    364,
-    450,
-    480,
-    27,
-    36,
-    75,
-    90,
-    147,
-    168,
-    243,
-    270,
-    363,
-    396,
-    507,
-    546,
-    675,
-    720,
-    36,
-    48,
-    100,
-    120,
-    196,
-    224,
-    324,
-    360,
-    484,
-    528,
-    676,
-    728,
-    900,
-    960,
-    45,
-    60,
-    125,
-    150,
-    245,
-    280,
-    405,
-    450,
-    605,
-    660,
-    845,
-    910,
-    1125,
-    1200,
-    54,
-    72,
-    150,
-    180,
-    294,
-    336,
-    486,
-    540,
-    726,
-    792,
-    1014,
-    1092,
-    1350,
-    1440,
-    63,
-    84,
-    175,
-    210,
-    343,
-    392,
-    567,
-    630,
-    847,
-    924,
-    1183,
-    1274,
-    1575,
-    1680,
-    72,
-    96,
-    200,
-    240,
-    392,
-    448,
-    648,
-    720,
-    968,
-    1056,
-    1352,
-    1456,
-    1800,
-    1920,
-    81,
-    108,
-    225,
-    270,
-    441,
-    504,
-    729,
-    810,
-    1089,
-    1188,
-    1521,
-    1638,
-    2025,
-    2160,
-    90,
-    120,
-    250,
-    300,
-    490,
-    560,
-    810,
-    900,
-    1210,
-    1320,
-    1690,
-    1820,
-    2250,
-    2400,
-    99,
-    132,
-    275,
-    330,
-    539,
-    616,
-    891,
-    990,
-    1331,
-    1452,
-    1859,
-    2002,
-    2475,
-    2640,
-    108,
-    144,
-    300,
-    360,
-    588,
-    672,
-    972,
-    1080,
-    1452,
-    1584,
-    2028,
-    2184,
-    2700,
-    2880,
-    117,
-    156,
-    325,
-    390,
-    637,
-    728,
-    1053,
-    1170,
-    1573,
-    1716,
-    2197,
-    2366,
-    2925,
-    3120,
-    126,
-    168,
-    350,
-    420,
-    686,
-    784,
-    1134,
-    1260,
-    1694,
-    1848,
-    2366,
-    2548,
-    3150,
-    3360,
-    135,
-    180,
-    375,
-    450,
-    735,
-    840,
-    1215,
-    1350,
-    1815,
-    1980,
-    2535,
-    2730,
-    3375,
-    3600,
-];
-
 // A byte as a count.
 pub fn wide(x: u8) -> usize
-    ensures { λ r. ⌜ r ≡ x ⌝ }
-{
-    x as usize
-}
-
-fn entry(x: u16) -> usize
     ensures { λ r. ⌜ r ≡ x ⌝ }
 {
     x as usize
@@ -280,13 +78,13 @@ pub fn product(a: usize, b: usize) -> usize
 pub fn height_ok(h: u32) -> bool
     ensures { λ r. ⌜ r ≡ heightOk h ⌝ }
 {
-    (1 <= h) & (h <= 15)
+    (1 <= h) & (h <= MAX_HEIGHT as u32)
 }
 
 pub fn distance_ok(d: u32) -> bool
     ensures { λ r. ⌜ r ≡ distanceOk d ⌝ }
 {
-    (2 <= d) & (d <= 15)
+    (2 <= d) & (d <= MAX_DISTANCE as u32)
 }
 
 pub fn shape_of(height: u32, distance: u32) -> Shaped
@@ -355,8 +153,7 @@ pub fn nodes(shape: Shape) -> usize
     if !ranged(shape) {
         return 0;
     }
-    let at = (wide(shape.height) - 1) * 14 + (wide(shape.distance) - 2);
-    entry(NODES[at])
+    nodes_in(shape, sheets(shape))
 }
 
 // The nodes of k sheets.

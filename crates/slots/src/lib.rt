@@ -1,15 +1,18 @@
 // The slots of a window, one sheet lower.
+use window::MAX_SLOTS;
 ghost use mathlib.Core.Path.{_≡_};
 ghost use mathlib.Core.Bool.{false};
 ghost use Prim.Native.Nat.{_*_, _≤_};
 ghost use lib.ListN.{length};
+ghost use Rattle.shape.specs.Sizes.{maxNodes};
+ghost use Rattle.window.specs.Window.{maxSlots};
 ghost use Rattle.window.specs.Lists.{over};
 ghost use Rattle.slots.specs.Slots.{fallen};
 
 // The slots of n nodes one sheet lower. Below the second sheet they are moved in one piece.
-pub fn sink_halves(growth: &mut [u8; 10800], old: &[u8; 10800], sheet: usize, n: usize)
-    requires { ⌜ (2 * sheet ≤ n) × (n ≤ 3600) ⌝ }
-    requires { ⌜ (now growth ≡ now old) × (length (now old) ≡ 10800) ⌝ }
+pub fn sink_halves(growth: &mut [u8; MAX_SLOTS], old: &[u8; MAX_SLOTS], sheet: usize, n: usize)
+    requires { ⌜ (2 * sheet ≤ n) × (n ≤ maxNodes) ⌝ }
+    requires { ⌜ (now growth ≡ now old) × (length (now old) ≡ maxSlots) ⌝ }
     ensures { λ _. ⌜ now (growth .exit) ≡ over (3 * n) (fallen sheet 0 (now (old .entry))) (now (old .entry)) ⌝ }
 {
     let mut e: usize = 0;
@@ -30,9 +33,14 @@ pub fn sink_halves(growth: &mut [u8; 10800], old: &[u8; 10800], sheet: usize, n:
     }
 }
 
-pub fn sink_bits(correction: &mut [bool; 10800], old: &[bool; 10800], sheet: usize, n: usize)
-    requires { ⌜ (2 * sheet ≤ n) × (n ≤ 3600) ⌝ }
-    requires { ⌜ (now correction ≡ now old) × (length (now old) ≡ 10800) ⌝ }
+pub fn sink_bits(
+    correction: &mut [bool; MAX_SLOTS],
+    old: &[bool; MAX_SLOTS],
+    sheet: usize,
+    n: usize,
+)
+    requires { ⌜ (2 * sheet ≤ n) × (n ≤ maxNodes) ⌝ }
+    requires { ⌜ (now correction ≡ now old) × (length (now old) ≡ maxSlots) ⌝ }
     ensures { λ _. ⌜ now (correction .exit) ≡ over (3 * n) (fallen sheet false (now (old .entry))) (now (old .entry)) ⌝ }
 {
     let mut f: usize = 0;

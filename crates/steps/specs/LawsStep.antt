@@ -8,7 +8,7 @@ use mathlib.Core.Bool.{Bool, true, false, _&&_, _||_, not}
 use mathlib.Core.Logic.{_⊎_, inl, inr, ⊎-elim}
 use borrow.Author.Tests.{eq-eqb, eqb-true, eqb-false, ne-eqb}
 use Rattle.shape.specs.Choice.{if, if-true, if-false, tell}
-use Rattle.shape.specs.Sizes.{nodesIn, sheetsOf, boundary}
+use Rattle.shape.specs.Sizes.{nodesIn, sheetsOf, boundary, maxNodes}
 use Rattle.shape.specs.Ranges.{Ranged}
 use Rattle.shape.specs.Nodes.{indexOf}
 use Rattle.shape.specs.Counting.{Inside, quotient, rest, before}
@@ -178,7 +178,7 @@ module _ (T : Table) (P : Proper T) (h d k : ℕ) where
     slot-window l =
         omega (arith, slot-lt, mul-le-mul-left (T .kinds) (mul-le-mul-left (h * (d + 1)) l))
 
-    pub slot-max : Ranged h d → k ≤ sheetsOf d → slot T h d p q < T .kinds * 3600
+    pub slot-max : Ranged h d → k ≤ sheetsOf d → slot T h d p q < T .kinds * maxNodes
     slot-max r l = omega (arith, slot-window l, mul-le-mul-left (T .kinds) (window-le h d r))
 
   -- two directions along edges, and the same slot: the kind is the same, and the end that names the edge

@@ -1,6 +1,6 @@
 -- The slot of an edge, by the end that names it. Assumes nothing.
 use Prim.Native.Nat.{ℕ, _+_, _*_}
-use mathlib.Core.Path.{_≡_, refl}
+use mathlib.Core.Path.{_≡_}
 use mathlib.Core.Bool.{true}
 use Rattle.shape.specs.Choice.{if-true}
 use Rattle.shape.specs.Nodes.{indexOf}

@@ -12,13 +12,14 @@ use lib.Dec.{ltb, eqb}
 use lib.ListN.{length, getD, replicate, length-set, length-replicate}
 use lib.Seq.{getD-set-same, getD-set-other}
 use Rattle.shape.specs.Choice.{if-true, if-false, tell}
-use Rattle.shape.specs.Sizes.{nodesOf}
+use Rattle.shape.specs.Sizes.{maxDistance, nodesOf, maxNodes}
 use Rattle.shape.specs.Ranges.{halves}
-use Rattle.walk.specs.LawsWalk.{peopled, nodes-max}
+use Rattle.shape.specs.LawsIndex.{nodes-max}
+use Rattle.walk.specs.LawsWalk.{peopled}
 use Rattle.window.specs.LawsLists.{and-not}
 use Rattle.window.specs.Window.{beyond}
 use Rattle.window.specs.declared.Node.{Node}
-use Rattle.stir.specs.Stirred.{settled, loud, uneven, within, numbered, marked, stirs, stirred, Room}
+use Rattle.stir.specs.Stirred.{settled, loud, uneven, within, numbered, marked, margin, entries, stirs, stirred, Room}
 
 -- ONE MARK
 
@@ -59,19 +60,19 @@ mark-set s i b l e = getD-set-same s i (getD s i false || b) false l ∙ or-righ
 
 -- ROOM for a node of the window
 
-pub room : (h d g : ℕ) → g < nodesOf h d → Room (g + 240) (d + 1) (h * (d + 1))
+pub room : (h d g : ℕ) → g < nodesOf h d → Room (g + margin) (d + 1) (h * (d + 1))
 room h d g l =
     let r = peopled h d g l in
-    let e : d + 1 ≤ 16 = omega (arith, r .d15) in
-    let most : h * (d + 1) ≤ 15 * 16 = mul-le-mul (r .h15) e in
+    let e : d + 1 ≤ maxDistance + 1 = omega (arith, r .d-max) in
+    let most : h * (d + 1) ≤ margin = mul-le-mul (r .h-max) e in
     let least : 1 * (d + 1) ≤ h * (d + 1) = mul-le-mul-right (d + 1) (r .h1) in
     record { rows = omega arith; rows-most = omega (arith, least); below = omega (arith, most); above = omega (arith, most, l, nodes-max h d) }
 
-pub within-low : (i r : ℕ) → r ≡ within i → r < 3600
-within-low i r e = subst (λ (x : ℕ). x < 3600) (sym e) (⊎-elim (λ t. rw t (ltb-true i 3600 t)) (λ t. rw t (omega arith)) (tell (ltb i 3600)))
+pub within-low : (i r : ℕ) → r ≡ within i → r < maxNodes
+within-low i r e = subst (λ (x : ℕ). x < maxNodes) (sym e) (⊎-elim (λ t. rw t (ltb-true i maxNodes t)) (λ t. rw t (omega arith)) (tell (ltb i maxNodes)))
 
-pub within-is : (i : ℕ) → i < 3600 → within i ≡ i
-within-is i l = if-true (ltb i 3600) i 0 (lt-ltb i 3600 l)
+pub within-is : (i : ℕ) → i < maxNodes → within i ≡ i
+within-is i l = if-true (ltb i maxNodes) i 0 (lt-ltb i maxNodes l)
 
 -- ONE NODE
 
@@ -128,7 +129,7 @@ module _ (i row sheet : ℕ) (n : Node) (east south up : Bool) where
   quiet-bits e (suc (suc (suc (suc (suc (suc zero)))))) = no-loud e
   quiet-bits e (suc (suc (suc (suc (suc (suc (suc k))))))) = refl
 
-  spot-low : Room i row sheet → (k : ℕ) → spot k < 4080
+  spot-low : Room i row sheet → (k : ℕ) → spot k < entries
   unfolding spot
   spot-low r zero = omega (arith, r .above)
   spot-low r (suc zero) = omega (arith, r .above, r .rows, r .rows-most)
@@ -176,11 +177,11 @@ module _ (i row sheet : ℕ) (n : Node) (east south up : Bool) where
       (λ e. rw (not-quiet s e) (firsts-grow s 0 7))
       (tell quiet)
 
-  module _ (s : List Bool) (r : Room i row sheet) (z : length s ≡ 4080) (k : ℕ) (l : k < 7) (b : bit k ≡ true) where
+  module _ (s : List Bool) (r : Room i row sheet) (z : length s ≡ entries) (k : ℕ) (l : k < 7) (b : bit k ≡ true) where
     loud-bit : quiet ≡ false → getD (firsts 7 s) (spot k) false ≡ true
     unfolding firsts
     loud-bit e =
-        let a : length (firsts k s) ≡ 4080 = start .long ∙ z in
+        let a : length (firsts k s) ≡ entries = start .long ∙ z in
         let j : spot k < length (firsts k s) = subst (λ (x : ℕ). spot k < x) (sym a) (spot-low r k) in
         let m : spot k < length (firsts (suc k) s) = subst (λ (x : ℕ). spot k < x) (sym (mark-grows (firsts k s) (spot k) (bit k) .long)) j in
         let f : 6 - k + suc k ≡ 7 = omega arith in
@@ -211,15 +212,15 @@ module _ (row sheet : ℕ) (nodes : List Node) (growth : List ℕ) where
 
   -- the marks of node j
   abbrev pub bitOf : ℕ → ℕ → Bool
-  bitOf j k = bit (j + 240) row sheet (getD nodes j beyond) (eastOf j) (southOf j) (upOf j) k
+  bitOf j k = bit (j + margin) row sheet (getD nodes j beyond) (eastOf j) (southOf j) (upOf j) k
 
   abbrev pub spotOf : ℕ → ℕ → ℕ
-  spotOf j k = spot (j + 240) row sheet (getD nodes j beyond) (eastOf j) (southOf j) (upOf j) k
+  spotOf j k = spot (j + margin) row sheet (getD nodes j beyond) (eastOf j) (southOf j) (upOf j) k
 
   node-grows : (j : ℕ) → Grows (stirred row sheet nodes growth j) (stirred row sheet nodes growth (suc j))
   unfolding stirred
   node-grows j =
-      stirs-grows (j + 240) row sheet (getD nodes j beyond) (eastOf j) (southOf j) (upOf j)
+      stirs-grows (j + margin) row sheet (getD nodes j beyond) (eastOf j) (southOf j) (upOf j)
       (stirred row sheet nodes growth j)
 
   grows-on : (j m : ℕ) → Grows (stirred row sheet nodes growth j) (stirred row sheet nodes growth (m + j))
@@ -228,20 +229,20 @@ module _ (row sheet : ℕ) (nodes : List Node) (growth : List ℕ) where
       let e : suc m + j ≡ suc (m + j) = omega arith in
       rw e (onwards (stirred row sheet nodes growth j) (stirred row sheet nodes growth (m + j)) (stirred row sheet nodes growth (suc (m + j))) (grows-on j m) (node-grows (m + j)))
 
-  pub stirred-long : (j : ℕ) → length (stirred row sheet nodes growth j) ≡ 4080
+  pub stirred-long : (j : ℕ) → length (stirred row sheet nodes growth j) ≡ entries
   unfolding stirred
-  stirred-long zero = length-replicate 4080 false
+  stirred-long zero = length-replicate entries false
   stirred-long (suc j) = node-grows j .long ∙ stirred-long j
 
   -- one node more
   pub next-marks : (j : ℕ) (s t : List Bool) → s ≡ stirred row sheet nodes growth j
-      → t ≡ stirs (j + 240) row sheet (getD nodes j beyond) (eastOf j) (southOf j) (upOf j) s
+      → t ≡ stirs (j + margin) row sheet (getD nodes j beyond) (eastOf j) (southOf j) (upOf j) s
       → t ≡ stirred row sheet nodes growth (j + 1)
   unfolding stirred
   next-marks j s t e f = rw (add-one j, f, e)
 
   pub next-uneven : (j : ℕ) (s t : List Bool) (x y z : Bool) (a b c l : ℕ) → s ≡ stirred row sheet nodes growth j
-      → t ≡ stirs (j + 240) row sheet (getD nodes j beyond) x y z s
+      → t ≡ stirs (j + margin) row sheet (getD nodes j beyond) x y z s
       → x ≡ uneven (getD growth (3 * j) 0) (getD nodes j beyond) (getD nodes a beyond) → a ≡ within (j + 1)
       → y ≡ uneven (getD growth (3 * j + 1) 0) (getD nodes j beyond) (getD nodes b beyond) → b ≡ within (j + row)
       → z ≡ uneven (getD growth (3 * j + 2) 0) (getD nodes j beyond) (getD nodes c beyond) → c ≡ within l → l ≡ j - sheet
@@ -266,24 +267,24 @@ module _ (row sheet : ℕ) (nodes : List Node) (growth : List ℕ) where
       let p : eastOf j ≡ false = and-not x _ (not-true x (a3 .1)) in
       let q : southOf j ≡ false = and-not y _ (not-true y (a2 .1)) in
       let r : upOf j ≡ false = and-not z _ (not-true z (a1 .1)) in
-      next-marks j s s e (stays-quiet (j + 240) row sheet (getD nodes j beyond) (eastOf j) (southOf j) (upOf j) s (settled (getD nodes j beyond)) refl
+      next-marks j s s e (stays-quiet (j + margin) row sheet (getD nodes j beyond) (eastOf j) (southOf j) (upOf j) s (settled (getD nodes j beyond)) refl
       (rw (p, q, r, ← f, a3 .0)))
 
   pub all-marks : (n g : ℕ) (s : List Bool) → g ≤ n → n ≤ g → s ≡ stirred row sheet nodes growth g → s ≡ stirred row sheet nodes growth n
   all-marks n g s a b e = let q : g ≡ n = omega arith in e ∙ ap (λ (m : ℕ). stirred row sheet nodes growth m) q
 
-  pub no-marks : replicate 4080 false ≡ stirred row sheet nodes growth 0
+  pub no-marks : replicate entries false ≡ stirred row sheet nodes growth 0
   unfolding stirred
   no-marks = refl
 
-  module _ (n j : ℕ) (l : j < n) (r : Room (j + 240) row sheet) (k : ℕ) (h : k < 7) where
+  module _ (n j : ℕ) (l : j < n) (r : Room (j + margin) row sheet) (k : ℕ) (h : k < 7) where
     marks : bitOf j k ≡ true → getD (stirred row sheet nodes growth n) (spotOf j k) false ≡ true
     unfolding stirred
     marks b =
-        let here = told (j + 240) row sheet (getD nodes j beyond) (eastOf j) (southOf j) (upOf j)
+        let here = told (j + margin) row sheet (getD nodes j beyond) (eastOf j) (southOf j) (upOf j)
         (stirred row sheet nodes growth j) r (stirred-long j) k h b in
         let low : spotOf j k < length (stirred row sheet nodes growth (suc j)) = subst (λ (x : ℕ). spotOf j k < x) (sym (stirred-long (suc j)))
-        (spot-low (j + 240) row sheet (getD nodes j beyond) (eastOf j) (southOf j) (upOf j) r k) in
+        (spot-low (j + margin) row sheet (getD nodes j beyond) (eastOf j) (southOf j) (upOf j) r k) in
         let f : n - suc j + suc j ≡ n = omega arith in
         rw f at (grows-on (suc j) (n - suc j) .kept (spotOf j k) low here)
 

@@ -4,6 +4,7 @@ use mathlib.Core.Bool.{Bool, true, false, _&&_, _||_, not}
 use mathlib.Core.List.{List}
 use lib.Dec.{ltb, eqb}
 use lib.ListN.{getD, set, replicate}
+use Rattle.shape.specs.Sizes.{maxHeight, maxDistance, nodesIn, maxNodes}
 use Rattle.shape.specs.Choice.{if}
 use Rattle.window.specs.Window.{beyond}
 use Rattle.window.specs.Merging.{onMark}
@@ -30,18 +31,25 @@ uneven growth a b = eqb growth 2 && differ (a .mark) (b .mark)
 
 -- an index of the nodes; any will do for one past their end
 abbrev pub within : ℕ → ℕ
-within i = if (ltb i 3600) i 0
+within i = if (ltb i maxNodes) i 0
 
 -- what is marked stays so
 abbrev pub marked : ℕ → Bool → List Bool → List Bool
 marked i b s = set s i (getD s i false || b)
+
+-- entries before the first node's and behind the last one's: a sheet of the largest shape
+abbrev pub margin : ℕ
+margin = nodesIn maxHeight maxDistance 1
+
+abbrev pub entries : ℕ
+entries = maxNodes + 2 * margin
 
 -- entries a row and a sheet to both sides
 pub record Room (i row sheet : ℕ) : Type 0 where
   pub rows : 1 ≤ row
   pub rows-most : row ≤ sheet
   pub below : sheet ≤ i
-  pub above : i + sheet < 4080
+  pub above : i + sheet < entries
 
 -- what the node at entry i marks, in a window with rows and sheets of so many nodes; its own edges east, south and up may be uneven
 unfoldable pub stirs : ℕ → ℕ → ℕ → Node → Bool → Bool → Bool → List Bool → List Bool
@@ -50,11 +58,11 @@ stirs i row sheet n east south up s =
     if (settled n && not east && not south && not up) s
     (marked (i + sheet) p (marked (i - row) p (marked (i - 1) p (marked (i - sheet) (up || p) (marked (i + row) (south || p) (marked (i + 1) (east || p) (marked i true s)))))))
 
--- what the first nodes mark; node g has entry g + 240, so that a sheet has room on both sides
+-- what the first nodes mark; node g has entry g + margin, so that a sheet has room on both sides
 unfoldable pub stirred : ℕ → ℕ → List Node → List ℕ → ℕ → List Bool
-stirred row sheet nodes growth zero = replicate 4080 false
+stirred row sheet nodes growth zero = replicate entries false
 stirred row sheet nodes growth (suc g) =
     let n = getD nodes g beyond in
-    stirs (g + 240) row sheet n (uneven (getD growth (3 * g) 0) n (getD nodes (within (g + 1)) beyond)) (uneven (getD growth (3 * g + 1) 0) n (getD nodes (within (g + row)) beyond))
+    stirs (g + margin) row sheet n (uneven (getD growth (3 * g) 0) n (getD nodes (within (g + 1)) beyond)) (uneven (getD growth (3 * g + 1) 0) n (getD nodes (within (g + row)) beyond))
     (uneven (getD growth (3 * g + 2) 0) n (getD nodes (within (g - sheet)) beyond))
     (stirred row sheet nodes growth g)

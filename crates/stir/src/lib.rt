@@ -1,11 +1,19 @@
 // Which nodes a merging step has to look at: a node that none has marked stays as it is.
+use shape::MAX_NODES;
+use shape::MAX_SHEET_NODES;
 use shape::Shape;
+use window::MAX_SLOTS;
 use window::Mark;
 use window::Node;
 ghost use mathlib.Core.Path.{_≡_};
 ghost use Prim.Native.Nat.{_+_, _-_, _*_, _<_};
 ghost use Rattle.shape.specs.Sizes.{nodesOf};
-ghost use Rattle.stir.specs.Stirred.{numbered as isNumbered, settled as isSettled, differ as theyDiffer, uneven as isUneven, within as withinNodes, marked, stirs, Room, stirred as stirredBy};
+ghost use Rattle.stir.specs.Stirred.{numbered as isNumbered, settled as isSettled, differ as theyDiffer, uneven as isUneven, within as withinNodes, marked, stirs, Room, stirred as stirredBy, entries};
+
+// Node g has entry g + MARGIN, so that a sheet of the largest shape has room on both sides.
+pub const MARGIN: usize = MAX_SHEET_NODES;
+
+const ENTRIES: usize = MAX_NODES + 2 * MARGIN;
 
 fn numbered(mark: Mark) -> bool
     ensures { λ r. ⌜ r ≡ isNumbered mark ⌝ }
@@ -49,7 +57,7 @@ fn uneven(growth: u8, a: Node, b: Node) -> bool
 fn within(i: usize) -> usize
     ensures { λ r. ⌜ r ≡ withinNodes i ⌝ }
 {
-    if i < 3600 {
+    if i < MAX_NODES {
         return i;
     }
     0
@@ -65,8 +73,8 @@ fn less(g: usize, by: usize) -> usize
 }
 
 // What is marked stays so.
-fn mark(stirred: &mut [bool; 4080], i: usize, also: bool)
-    requires { ⌜ i < 4080 ⌝ }
+fn mark(stirred: &mut [bool; ENTRIES], i: usize, also: bool)
+    requires { ⌜ i < entries ⌝ }
     ensures { λ _. ⌜ now (stirred .exit) ≡ marked i also (now (stirred .entry)) ⌝ }
 {
     stirred[i] = stirred[i] | also;
@@ -74,7 +82,7 @@ fn mark(stirred: &mut [bool; 4080], i: usize, also: bool)
 
 // Marks what a node may change: itself, the other ends of its uneven edges, and all neighbours if it is active or pushes.
 fn stir(
-    stirred: &mut [bool; 4080],
+    stirred: &mut [bool; ENTRIES],
     i: usize,
     row: usize,
     sheet: usize,
@@ -99,19 +107,19 @@ fn stir(
     mark(stirred, i + sheet, loud);
 }
 
-// The nodes that a step may change: node g at g + 240, so that a sheet has room on both sides.
+// The nodes that a step may change.
 pub fn stirred_nodes(
     shape: Shape,
     n: usize,
-    nodes: [Node; 3600],
-    growth: &[u8; 10800],
-) -> [bool; 4080]
+    nodes: [Node; MAX_NODES],
+    growth: &[u8; MAX_SLOTS],
+) -> [bool; ENTRIES]
     requires { ⌜ n ≡ nodesOf (shape .height) (shape .distance) ⌝ }
     ensures { λ r. ⌜ r ≡ stirredBy (shape .distance + 1) (shape .height * (shape .distance + 1)) nodes (now (growth .entry)) n ⌝ }
 {
     let row = shape.distance as usize + 1;
     let sheet = shape.height as usize * row;
-    let mut stirred = [false; 4080];
+    let mut stirred = [false; ENTRIES];
     let mut g: usize = 0;
     'marks: while g < n {
         let node = nodes[g];
@@ -123,7 +131,7 @@ pub fn stirred_nodes(
         let east = uneven(growth[e], node, nodes[within(g + 1)]);
         let south = uneven(growth[e + 1], node, nodes[within(g + row)]);
         let up = uneven(growth[e + 2], node, nodes[within(less(g, sheet))]);
-        stir(&mut stirred, g + 240, row, sheet, node, east, south, up);
+        stir(&mut stirred, g + MARGIN, row, sheet, node, east, south, up);
         g += 1;
     }
     stirred

@@ -15,7 +15,7 @@ use Rattle.refusal.specs.declared.Refusal.{Refusal}
 use Rattle.shape.specs.Sizes.{detectorsOf, layerEdgesOf}
 use Rattle.steps.specs.Steps.{base}
 use Rattle.list.specs.Sheet.{areBits}
-use Rattle.window.specs.Window.{isRest}
+use Rattle.window.specs.Window.{isRest, maxNext}
 use Rattle.window.specs.Formed.{wellFormed}
 use Rattle.window.specs.Calls.{callAnswer, stateTests, roundTests}
 use Rattle.window.specs.declared.Called.{Called}
@@ -24,8 +24,8 @@ use Rattle.window.specs.declared.Window.{Window}
 use Rattle.tested.proofs.State.{fine, state-turned}
 
 -- tests by numbers that a part gave
-pub early-by : (n : ℕ) → n ≤ 4294967295 → (n ≡ 4294967295 → ⊥) → n < 4294967295
-early-by n l f = less n 4294967295 l f
+pub early-by : (n : ℕ) → n ≤ maxNext → (n ≡ maxNext → ⊥) → n < maxNext
+early-by n l f = less n maxNext l f
 
 pub same-by : (n k m : ℕ) → k ≡ m → n ≡ k → eqb n m ≡ true
 same-by n k m e f = eq-eqb n m (f ∙ e)
@@ -50,7 +50,7 @@ module _ (w : Window) (bytes : List ℕ) (edges escapes : ℕ) where
   abbrev bottomTest : Bool
   bottomTest = eqb escapes (detectorsOf (w .shape .height) (w .shape .distance))
 
-  by-seven : seven (wellFormed base w) (isRest (w .stage)) (ltb (w .next) 4294967295) sheetTest layerTest bottomTest (areBits bytes) ≡ tested
+  by-seven : seven (wellFormed base w) (isRest (w .stage)) (ltb (w .next) maxNext) sheetTest layerTest bottomTest (areBits bytes) ≡ tested
   unfolding seven
   by-seven = refl
 
@@ -67,13 +67,13 @@ module _ (w : Window) (bytes : List ℕ) (edges escapes : ℕ) where
     b : isRest (w .stage) ≡ true
     b = state .1
 
-    pub turned-23 : w .next ≡ 4294967295 → refused 23 ≡ tested
+    pub turned-23 : w .next ≡ maxNext → refused 23 ≡ tested
     unfolding seven
-    turned-23 n = let c : ltb (w .next) 4294967295 ≡ false = le-ltb (w .next) 4294967295 (omega arith) in sym (sym by-seven ∙ rw (a, b, c))
+    turned-23 n = let c : ltb (w .next) maxNext ≡ false = le-ltb (w .next) maxNext (omega arith) in sym (sym by-seven ∙ rw (a, b, c))
 
-    module _ (k : w .next < 4294967295) where
-      early : ltb (w .next) 4294967295 ≡ true
-      early = lt-ltb (w .next) 4294967295 k
+    module _ (k : w .next < maxNext) where
+      early : ltb (w .next) maxNext ≡ true
+      early = lt-ltb (w .next) maxNext k
 
       pub turned-3 : sheetTest ≡ false → refused 3 ≡ tested
       unfolding seven
@@ -102,7 +102,7 @@ module _ (w : Window) (bytes : List ℕ) (edges escapes : ℕ) where
   -- all tests passed
   pub record Fine : Type 0 where
     pub formed : wellFormed base w ≡ true
-    pub next : w .next < 4294967295
+    pub next : w .next < maxNext
     pub sheet : length bytes ≡ detectorsOf (w .shape .height) (w .shape .distance)
     pub layer : edges ≡ layerEdgesOf (w .shape .height) (w .shape .distance)
     pub bottom : escapes ≡ detectorsOf (w .shape .height) (w .shape .distance)
@@ -111,7 +111,7 @@ module _ (w : Window) (bytes : List ℕ) (edges escapes : ℕ) where
   told-fine e =
       let a = took (wellFormed base w) _ (refused 21) tt 0 refl (sym e) in
       let b = took (isRest (w .stage)) _ (refused 22) tt 0 refl (a .1) in
-      let c = took (ltb (w .next) 4294967295) _ (refused 23) tt 0 refl (b .1) in
+      let c = took (ltb (w .next) maxNext) _ (refused 23) tt 0 refl (b .1) in
       let d = took (eqb (length bytes) (detectorsOf (w .shape .height) (w .shape .distance))) _ (refused 3) tt 0 refl (c .1) in
       let f = took (eqb edges (layerEdgesOf (w .shape .height) (w .shape .distance))) _ (refused 5) tt 0 refl (d .1) in
       let g = took (eqb escapes (detectorsOf (w .shape .height) (w .shape .distance))) _ (refused 6) tt 0 refl (f .1) in

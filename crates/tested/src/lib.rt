@@ -1,6 +1,7 @@
 // What a call tests before it does anything, in the document's order.
 use refusal::Refusal;
 use window::Called;
+use window::MAX_NEXT;
 use window::Window;
 ghost use mathlib.Core.Path.{_≡_};
 ghost use Rattle.refusal.specs.Answer.{done, unless};
@@ -29,7 +30,7 @@ pub fn test_round(w: Window, bytes: &[u8], edges: usize, escapes: usize) -> Call
     if let Called::Refused(f) = tested {
         return Called::Refused(f);
     }
-    if w.next == 4294967295 {
+    if w.next == MAX_NEXT {
         return Called::Refused(Refusal::LastRound);
     }
     let detectors = shape::detectors(w.shape);

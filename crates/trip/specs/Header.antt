@@ -12,7 +12,7 @@ use Rattle.refusal.specs.Bytes.{Bytes}
 use Rattle.refusal.specs.Filling.{drop-part}
 use Rattle.number.specs.Number.{written, numberAt}
 use Rattle.number.specs.Trip.{number-reads, NumberWrites, number-writes, number-no-end}
-use Rattle.shape.specs.Sizes.{heightOk, distanceOk}
+use Rattle.shape.specs.Sizes.{maxHeight, maxDistance, heightOk, distanceOk}
 use Rattle.shape.specs.Ranges.{halves, height-ok, distance-ok}
 use Rattle.shape.specs.declared.Shape.{Shape}
 use Rattle.record.specs.Records.{header, headerAt}
@@ -25,8 +25,8 @@ use Rattle.record.specs.Laws.{onDistance, onHeight, header-steps, header-next, 
 pub record Ranges (h d : ℕ) : Type 0 where
   pub height : heightOk h ≡ true
   pub distance : distanceOk d ≡ true
-  pub low : h ≤ 15
-  pub near : d ≤ 15
+  pub low : h ≤ maxHeight
+  pub near : d ≤ maxDistance
 
 pub ranges : (sh : Shape) → InRange sh → Ranges (sh .height) (sh .distance)
 ranges sh e =

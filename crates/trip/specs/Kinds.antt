@@ -1,6 +1,5 @@
 -- The two kinds of round, of the input and of the result, each there and back by itself. Assumes nothing.
-use Prim.Native.Nat.{ℕ, _+_, _-_, _*_, _≤_}
-use native.Mathlib.Nat.{mul-le-mul}
+use Prim.Native.Nat.{ℕ, _+_, _≤_}
 use native.Mathlib.Omega.{arith}
 use mathlib.Core.Path.{_≡_, refl, sym, _∙_, ap, subst₂}
 use mathlib.Core.Bool.{Bool, true, false}
@@ -18,11 +17,12 @@ use Rattle.number.specs.Trip.{number-reads, number-writes, number-no-end}
 use Rattle.list.specs.Sheet.{listed, listAt}
 use Rattle.list.specs.Trip.{list-reads, ListWrites, list-writes, list-no-end}
 use Rattle.list.specs.Laws.{length-listed}
+use Rattle.shape.specs.Ranges.{ranged}
+use Rattle.shape.specs.LawsSizes.{detectors-le, layer-le}
 use Rattle.shape.specs.declared.Shape.{Shape}
 use Rattle.record.specs.Records.{unlessEnded, Result, result, resultFrom}
 use Rattle.trip.specs.Streams.{roundOf, resultOf}
 use Rattle.trip.specs.Fits.{edgesIn, detectorsIn, Entries, RoundFits, RecordFits, InRange}
-use Rattle.trip.specs.Header.{ranges}
 use Rattle.record.specs.Laws.{at-end, before-end, onSteps, onEscapes, onEdges, result-steps, result-done, length-result}
 use Rattle.trip.specs.Trip.{RecordWrites, Trips, Kind}
 
@@ -54,19 +54,12 @@ kind read write fits trips noEnd = record {
 
 -- THE SIZES, which are numbers of the stream
 
-product-small : (a b : ℕ) → a ≤ 15 → b ≤ 15 → a * b ≤ 225
-product-small a b h k = mul-le-mul h k
-
 module _ (sh : Shape) (range : InRange sh) where
   detectors-small : detectorsIn sh ≤ largest
-  detectors-small = let r = ranges sh range in omega (arith, product-small (sh .height) (sh .distance - 1) (omega arith) (omega arith))
+  detectors-small = omega (arith, detectors-le (sh .height) (sh .distance) (ranged (sh .height) (sh .distance) range))
 
   edges-small : edgesIn sh ≤ largest
-  edges-small =
-      let r = ranges sh range in
-      let p = product-small (sh .height) (sh .distance) (omega arith) (omega arith) in
-      let q = product-small (sh .height - 1) (sh .distance - 1) (omega arith) (omega arith) in
-      omega (arith, product-small (sh .height) (sh .distance - 1) (omega arith) (omega arith))
+  edges-small = omega (arith, layer-le (sh .height) (sh .distance) (ranged (sh .height) (sh .distance) range))
 
 -- a list of entries that fit
 entries-read : (s : List ℕ) (n at : ℕ) (xs rest : List ℕ) → n ≤ largest → Entries n xs → drop at s ≡ listed xs ++ rest

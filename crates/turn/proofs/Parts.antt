@@ -6,7 +6,7 @@ use mathlib.Core.List.{List}
 use lib.ListN.{length}
 use Rattle.shape.specs.LawsSizes.{detectors-le as detectors-most, layer-le}
 use Rattle.shape.specs.Ranges.{ranged}
-use Rattle.shape.specs.Sizes.{inRange, detectorsOf, layerEdgesOf}
+use Rattle.shape.specs.Sizes.{inRange, detectorsOf, layerEdgesOf, maxDetectors, maxLayerEdges}
 use Rattle.steps.specs.Steps.{base}
 use Rattle.window.specs.LawsLists.{Fills}
 use Rattle.window.specs.Round.{committedEdges, escapedDefects}
@@ -15,10 +15,10 @@ use Rattle.decoding.specs.LawsTurn.{detectors, edges, committed-long, escaped-l
 
 -- the largest shape's detectors and edges, for which the arrays have room
 module _ (h d : ℕ) (range : inRange h d ≡ true) where
-  pub detectors-le : detectorsOf h d ≤ 210
+  pub detectors-le : detectorsOf h d ≤ maxDetectors
   detectors-le = detectors-most h d (ranged h d range)
 
-  pub edges-le : layerEdgesOf h d ≤ 631
+  pub edges-le : layerEdgesOf h d ≤ maxLayerEdges
   edges-le = layer-le h d (ranged h d range)
 
 -- what leaves fills its part

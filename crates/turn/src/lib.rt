@@ -3,6 +3,8 @@ use decoding::Ending;
 use decoding::Record;
 use decoding::RecordGiven;
 use number::Wrote;
+use shape::MAX_DETECTORS;
+use shape::MAX_LAYER_EDGES;
 use window::Ran;
 use window::Window;
 ghost use mathlib.Core.Path.{_≡_};
@@ -12,6 +14,7 @@ ghost use lib.ListN.{length};
 ghost use Rattle.refusal.specs.Answer.{done};
 ghost use Rattle.shape.specs.Sizes.{inRange, detectorsOf, layerEdgesOf};
 ghost use Rattle.steps.specs.Steps.{base};
+ghost use Rattle.window.specs.Window.{maxNext};
 ghost use Rattle.window.specs.Round.{rounded, committedEdges, escapedDefects};
 ghost use Rattle.window.specs.Run.{ran};
 ghost use Rattle.decoding.specs.Decoding.{budget, turnOf, recorded};
@@ -20,7 +23,7 @@ ghost use Rattle.decoding.specs.Answers.{recordAnswer, recordReturned, recorded
 // Receives a round and runs the window.
 fn turn(w: Window, bytes: &[u8], edges: &mut [u8], escapes: &mut [u8]) -> Ran
     requires { ⌜ inRange (w .shape .height) (w .shape .distance) ≡ true ⌝ }
-    requires { ⌜ w .next < 4294967295 ⌝ }
+    requires { ⌜ w .next < maxNext ⌝ }
     requires { ⌜ length (now bytes) ≡ detectorsOf (w .shape .height) (w .shape .distance) ⌝ }
     requires { ⌜ length (now edges) ≡ layerEdgesOf (w .shape .height) (w .shape .distance) ⌝ }
     requires { ⌜ length (now escapes) ≡ detectorsOf (w .shape .height) (w .shape .distance) ⌝ }
@@ -34,7 +37,7 @@ fn turn(w: Window, bytes: &[u8], edges: &mut [u8], escapes: &mut [u8]) -> Ran
 // Receives a round that was read, up to an offset, and writes its record from an offset on.
 pub fn decode_round(w: Window, bytes: &[u8], next: usize, out: &mut [u8], to: usize) -> RecordGiven
     requires { ⌜ inRange (w .shape .height) (w .shape .distance) ≡ true ⌝ }
-    requires { ⌜ w .next < 4294967295 ⌝ }
+    requires { ⌜ w .next < maxNext ⌝ }
     requires { ⌜ length (now bytes) ≡ detectorsOf (w .shape .height) (w .shape .distance) ⌝ }
     requires { ⌜ to ≤ length (now out) ⌝ }
     ensures { λ r. ⌜ recordReturned (recordAnswer (r .answer)) (r .window) (now (out .exit)) ≡ recordedLeaves (recorded (length (now (out .entry)) - to) (done (turnOf base w (now (bytes .entry))) next)) w (now (out .entry)) to ⌝ }
@@ -42,8 +45,8 @@ pub fn decode_round(w: Window, bytes: &[u8], next: usize, out: &mut [u8], to: us
     let shape = w.shape;
     let n = shape::detectors(shape);
     let m = shape::layer_edges(shape);
-    let mut edges = [0; 631];
-    let mut escapes = [0; 210];
+    let mut edges = [0; MAX_LAYER_EDGES];
+    let mut escapes = [0; MAX_DETECTORS];
     let ran = turn(w, bytes, &mut edges[..m], &mut escapes[..n]);
     if !ran.rest {
         return RecordGiven {

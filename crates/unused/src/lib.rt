@@ -1,20 +1,22 @@
 // Whether the entries behind a window's own are unused.
+use shape::MAX_NODES;
 use window::Mark;
 use window::Window;
 ghost use mathlib.Core.Path.{_≡_};
 ghost use mathlib.Core.Bool.{not};
 ghost use Prim.Native.Nat.{_≤_};
 ghost use lib.ListN.{drop};
+ghost use Rattle.shape.specs.Sizes.{maxNodes};
 ghost use Rattle.window.specs.Lists.{all};
 ghost use Rattle.window.specs.Formed.{unusedNode, isEmpty};
 
 // Behind the window's nodes nothing stands. The test is written out: a function that takes the node costs twice the time.
 pub fn rest_unused(w: Window, n: usize) -> bool
-    requires { ⌜ n ≤ 3600 ⌝ }
+    requires { ⌜ n ≤ maxNodes ⌝ }
     ensures { λ r. ⌜ r ≡ all unusedNode (drop n (w .nodes)) ⌝ }
 {
     let mut g = n;
-    while g < 3600 {
+    while g < MAX_NODES {
         let node = w.nodes[g];
         let mark = node.mark;
         let Mark::Root(m) = mark else {

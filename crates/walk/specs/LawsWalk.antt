@@ -7,7 +7,7 @@ use mathlib.Core.Bool.{Bool, true, false, not}
 use mathlib.Core.Logic.{⊎-elim}
 use borrow.Author.Tests.{lt-ltb, le-ltb}
 use Rattle.shape.specs.Choice.{order, if-false}
-use Rattle.shape.specs.Sizes.{sheetsOf, boundary, inRange, nodesIn, nodesOf}
+use Rattle.shape.specs.Sizes.{sheetsOf, boundary, inRange, nodesIn, nodesOf, maxSheets, maxNodes, maxNumbers}
 use Rattle.shape.specs.Ranges.{Ranged, ranged, nodes-of, sheets-le}
 use Rattle.shape.specs.Counting.{Inside}
 use Rattle.shape.specs.Nodes.{indexOf, placeAt, numberOf}
@@ -16,7 +16,7 @@ use Rattle.steps.specs.Proper.{proper-base}
 use Rattle.steps.specs.LawsStep.{near-inside, slot-max}
 use Rattle.shape.specs.declared.Found.{Found}
 use Rattle.shape.specs.declared.Found.the-variants.{At, Nowhere}
-use Rattle.window.specs.Window.{naming, namer, nowhere, reach}
+use Rattle.window.specs.Window.{naming, namer, nowhere, reach, maxSlots}
 use Rattle.window.specs.declared.Way.{Way}
 use Rattle.shape.specs.LawsIndex.{index-place, place-index, index-inside, index-lt, nodes-le, window-le, numbers-le}
 use Rattle.shape.specs.LawsNumber.{number-lt}
@@ -129,21 +129,14 @@ peopled h d g l = go (inRange h d) refl
     go true e = ranged h d e
     go false e = absurd (not-suc-le-zero (subst (λ (n : ℕ). g < n) (if-false (inRange h d) (nodesIn h d (sheetsOf d)) 0 e) l))
 
-pub nodes-max : (h d : ℕ) → nodesOf h d ≤ 3600
-nodes-max h d = go (inRange h d) refl
-  where
-    go : (b : Bool) → inRange h d ≡ b → nodesOf h d ≤ 3600
-    go true e = let r = ranged h d e in omega (arith, nodes-of h d r, window-le h d r)
-    go false e = omega (arith, if-false (inRange h d) (nodesIn h d (sheetsOf d)) 0 e)
-
 module _ (h d : ℕ) (q : Place) (g : ℕ) (s : Stands h d q g) where
-  pub stands-low : g < 3600
+  pub stands-low : g < maxNodes
   stands-low = omega (arith, s .index, index-lt h d (sheetsOf d) q (s .inside), window-le h d (s .ranged))
 
-  pub depth-low : q .depth < 15
-  depth-low = omega (arith, s .inside .depth, sheets-le d (s .ranged .d15))
+  pub depth-low : q .depth < maxSheets
+  depth-low = omega (arith, s .inside .depth, sheets-le d (s .ranged .d-max))
 
-  pub number-low : numberOf h d q < 3840
+  pub number-low : numberOf h d q < maxNumbers
   number-low =
       let i : Inside h d (sheetsOf d + 1) q = record { depth = omega (arith, s .inside .depth); row = s .inside .row; column = s .inside .column } in
       omega (arith, number-lt h d (s .ranged .d2) q i, numbers-le h d (s .ranged))
@@ -184,18 +177,18 @@ walks-on h d q t g f e h1 = walks h d q t g h1 (f h1) e
 
 -- a way leads to a node and over a slot of the window, whose sheets need not all be there
 module _ (h d k p : ℕ) (q : Place) (r : Ranged h d) (l : k ≤ sheetsOf d) where
-  leads : (f : Found) → near base h d k p q ≡ f → (reach base h d k p q .node < 3600) × (reach base h d k p q .slot < 10800)
+  leads : (f : Found) → near base h d k p q ≡ f → (reach base h d k p q .node < maxNodes) × (reach base h d k p q .slot < maxSlots)
   unfolding base
   leads (At q') e =
       let i = near-inside base proper-base h d k p q q' e in
-      let n = nodes-le h d k 15 (r .h15) (r .d15) (omega (arith, sheets-le d (r .d15))) in
+      let n = nodes-le h d k maxSheets r (omega (arith, sheets-le d (r .d-max))) in
       rw (← way-there base h d k p q q' e) (omega (arith, index-lt h d k q' i), omega (arith, slot-max base proper-base h d k p q q' e r l))
   leads Nowhere e = rw (← none-there base h d k p q e) (omega arith, omega arith)
 
-  pub way-low : (reach base h d k p q .node < 3600) × (reach base h d k p q .slot < 10800)
+  pub way-low : (reach base h d k p q .node < maxNodes) × (reach base h d k p q .slot < maxSlots)
   way-low = leads (near base h d k p q) refl
 
-pub ends-low : (h d k p : ℕ) (q : Place) (way : Way) → Ranged h d → k ≤ sheetsOf d → way ≡ reach base h d k p q → (way .node < 3600) × (way .slot < 10800)
+pub ends-low : (h d k p : ℕ) (q : Place) (way : Way) → Ranged h d → k ≤ sheetsOf d → way ≡ reach base h d k p q → (way .node < maxNodes) × (way .slot < maxSlots)
 ends-low h d k p q way r l e = rw e (way-low h d k p q r l)
 
 -- the directions in which a node names its edges: E, S, U

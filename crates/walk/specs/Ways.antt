@@ -8,7 +8,7 @@ use mathlib.Core.Logic.{⊎-elim}
 use borrow.Author.Tests.{le-ltb, ltb-true, ltb-false, eq-eqb, ne-eqb, eqb-true, eqb-false, not-true, not-false}
 use lib.Dec.{ltb, leb, eqb}
 use Rattle.shape.specs.Choice.{tell, order}
-use Rattle.shape.specs.Sizes.{sheetsOf, boundary}
+use Rattle.shape.specs.Sizes.{sheetsOf, boundary, maxSheets, maxNumbers}
 use Rattle.shape.specs.Nodes.{indexOf}
 use Rattle.shape.specs.Counting.{Inside}
 use Rattle.shape.specs.Ranges.{sheets-le}
@@ -260,9 +260,9 @@ module _ (h d : ℕ) (q : Place) (g : ℕ) (s : Stands h d q g) where
         (still-inner d (q .column) (inner-test (boundary d (q .column)) (ltb (q .depth + 1) k) e .0))
 
     -- at most into the ghost sheet
-    pub down-low : k ≤ sheetsOf d + 1 → g + h * (d + 1) < 3840
+    pub down-low : k ≤ sheetsOf d + 1 → g + h * (d + 1) < maxNumbers
     down-low l =
-        omega (arith, down-index, index-lt h d k (across (step base 5) q) (down-joins .to), nodes-le h d k 16 (s .ranged .h15) (s .ranged .d15) (omega (arith, sheets-le d (s .ranged .d15))))
+        omega (arith, down-index, index-lt h d k (across (step base 5) q) (down-joins .to), nodes-le h d k (maxSheets + 1) (s .ranged) (omega (arith, sheets-le d (s .ranged .d-max))))
 
   -- U
   pub up-none : (k : ℕ) → not (boundary d (q .column)) && ltb 0 (q .depth) ≡ false → nowhere ≡ reach base h d k 6 q

@@ -5,7 +5,7 @@ use window::Way;
 ghost use mathlib.Core.Path.{_≡_};
 ghost use mathlib.Core.Bool.{true, not};
 ghost use Prim.Native.Nat.{ℕ, _+_, _*_, _≤_, _<_};
-ghost use Rattle.shape.specs.Sizes.{boundary, sheetsOf};
+ghost use Rattle.shape.specs.Sizes.{boundary, sheetsOf, maxNumbers};
 ghost use Rattle.shape.specs.Nodes.{numberOf};
 ghost use Rattle.steps.specs.Steps.{base};
 ghost use Rattle.walk.specs.Walk.{placeAfter, Stands};
@@ -58,7 +58,7 @@ fn no_edge() -> Way
 
 // Over the edge of a kind that one end names.
 fn over(node: usize, names: usize, kind: usize, detector: bool) -> Way
-    requires { ⌜ (names < 3840) × (kind < 3) ⌝ }
+    requires { ⌜ (names < maxNumbers) × (kind < 3) ⌝ }
     ensures { λ r. ⌜ r ≡ record { there = true; node = node; slot = 3 * names + kind; detector = detector } ⌝ }
 {
     Way {

@@ -8,7 +8,7 @@ use Rattle.refusal.specs.Answer.{Answer, done, turned, unless, andThen, without
 use Rattle.list.specs.Sheet.{areBits}
 use Rattle.shape.specs.Sizes.{shapeOf, detectorsOf, layerEdgesOf}
 use Rattle.steps.specs.Steps.{Table}
-use Rattle.window.specs.Window.{isRest, isToGrow, isMerging}
+use Rattle.window.specs.Window.{isRest, isToGrow, isMerging, maxNext}
 use Rattle.window.specs.Fresh.{freshWindow}
 use Rattle.window.specs.Formed.{wellFormed}
 use Rattle.window.specs.Round.{rounded, committedEdges, escapedDefects}
@@ -71,7 +71,7 @@ module _ (T : Table) (w : Window) where
   roundTests bytes edges escapes =
       (wellFormed T w, 21)
       ∷ (isRest (w .stage), 22)
-      ∷ (ltb (w .next) 4294967295, 23)
+      ∷ (ltb (w .next) maxNext, 23)
       ∷ (eqb (length bytes) (detectorsOf (w .shape .height) (w .shape .distance)), 3)
       ∷ (eqb edges (layerEdgesOf (w .shape .height) (w .shape .distance)), 5)
       ∷ (eqb escapes (detectorsOf (w .shape .height) (w .shape .distance)), 6)

@@ -2,11 +2,11 @@
 use Prim.Native.Nat.{ℕ}
 use mathlib.Core.Bool.{false}
 use lib.ListN.{replicate}
-use Rattle.shape.specs.Sizes.{sheetsOf, nodesOf}
+use Rattle.shape.specs.Sizes.{sheetsOf, nodesOf, maxNodes, maxDetectors}
 use Rattle.shape.specs.Nodes.{numberOf, placeAt}
 use Rattle.shape.specs.declared.Shape.{Shape}
 use Rattle.window.specs.Lists.{over}
-use Rattle.window.specs.Window.{alone, unused}
+use Rattle.window.specs.Window.{alone, unused, maxSlots}
 use Rattle.window.specs.declared.Stage.the-variants.{Rest}
 use Rattle.window.specs.declared.Window.{Window}
 
@@ -17,10 +17,10 @@ freshWindow sh =
       shape = sh;
       stage = Rest;
       next = sheetsOf (sh .distance);
-      nodes = over (nodesOf (sh .height) (sh .distance)) (λ g. alone (numberOf (sh .height) (sh .distance) (placeAt (sh .height) (sh .distance) g)) false) (replicate 3600 unused);
-      growth = replicate {A = ℕ} 10800 0;
-      correction = replicate 10800 false;
-      measured = replicate 210 false;
+      nodes = over (nodesOf (sh .height) (sh .distance)) (λ g. alone (numberOf (sh .height) (sh .distance) (placeAt (sh .height) (sh .distance) g)) false) (replicate maxNodes unused);
+      growth = replicate {A = ℕ} maxSlots 0;
+      correction = replicate maxSlots false;
+      measured = replicate maxDetectors false;
     }
 
 -- what a refused call gives in its place: no shape, no round, nothing in it; no call takes it for a window
@@ -30,8 +30,8 @@ noWindow =
       shape = record { height = 0; distance = 0 };
       stage = Rest;
       next = 0;
-      nodes = replicate 3600 unused;
-      growth = replicate {A = ℕ} 10800 0;
-      correction = replicate 10800 false;
-      measured = replicate 210 false;
+      nodes = replicate maxNodes unused;
+      growth = replicate {A = ℕ} maxSlots 0;
+      correction = replicate maxSlots false;
+      measured = replicate maxDetectors false;
     }

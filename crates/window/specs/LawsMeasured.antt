@@ -6,6 +6,7 @@ use mathlib.Core.List.{List, []}
 use mathlib.Core.Logic.{⊎-elim}
 use lib.Dec.{eqb}
 use lib.ListN.{length, getD, replicate, List·getD-eq-default}
+use Rattle.shape.specs.Sizes.{maxDetectors}
 use Rattle.list.specs.Sheet.{areBits}
 use Rattle.shape.specs.Choice.{order}
 use Rattle.window.specs.Lists.{bit}
@@ -29,7 +30,7 @@ module _ (sheet : List Bool) (bytes : List ℕ) where
 
 -- THE SHEET
 
-pub sheet-none : asSheet [] ≡ replicate 210 false
+pub sheet-none : asSheet [] ≡ replicate maxDetectors false
 unfolding asSheet
 sheet-none = over-none _ _
 
@@ -37,9 +38,9 @@ sheet-none = over-none _ _
 pub sheet-at : (bytes : List ℕ) (i : ℕ) → getD (asSheet bytes) i false ≡ isSet bytes i
 unfolding asSheet
 sheet-at bytes i =
-    ⊎-elim (λ l. over-at (isSet bytes) (replicate 210 false) (length bytes) i false l)
+    ⊎-elim (λ l. over-at (isSet bytes) (replicate maxDetectors false) (length bytes) i false l)
     (λ l.
-    over-later (isSet bytes) (replicate 210 false) (length bytes) i false l
-    ∙ getD-same false 210 i
+    over-later (isSet bytes) (replicate maxDetectors false) (length bytes) i false l
+    ∙ getD-same false maxDetectors i
     ∙ sym (ap (λ (x : ℕ). eqb x 1) (List·getD-eq-default bytes 0 l)))
     (order i (length bytes))

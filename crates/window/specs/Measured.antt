@@ -4,6 +4,7 @@ use mathlib.Core.Bool.{Bool, false}
 use mathlib.Core.List.{List}
 use lib.Dec.{eqb}
 use lib.ListN.{length, getD, replicate}
+use Rattle.shape.specs.Sizes.{maxDetectors}
 use Rattle.window.specs.Lists.{byPlace, over, bit, xor}
 use Rattle.window.specs.declared.Window.{Window}
 
@@ -19,7 +20,7 @@ differences sheet bytes = byPlace (length bytes) (λ i. bit (differs sheet bytes
 
 -- the bytes as a sheet: a bit a detector, row by row; the entries behind them are unused and false. The sheet of no bytes is all zero
 unfoldable pub asSheet : List ℕ → List Bool
-asSheet bytes = over (length bytes) (isSet bytes) (replicate 210 false)
+asSheet bytes = over (length bytes) (isSet bytes) (replicate maxDetectors false)
 
 -- another sheet; all else stays
 abbrev pub withSheet : Window → List Bool → Window

@@ -5,7 +5,7 @@ use mathlib.Core.List.{List, [], _∷_}
 use lib.Dec.{eqb}
 use lib.ListN.{getD}
 use Rattle.shape.specs.Choice.{if}
-use Rattle.shape.specs.Sizes.{sheetsOf, boundary, nodesOf}
+use Rattle.shape.specs.Sizes.{sheetsOf, boundary, nodesOf, maxNodes}
 use Rattle.shape.specs.Nodes.{indexOf, placeAt}
 use Rattle.steps.specs.Steps.{Table, near, slot}
 use Rattle.shape.specs.declared.Place.{Place}
@@ -17,6 +17,14 @@ use Rattle.window.specs.declared.Stage.the-variants.{Rest, ToGrow, Mergi
 use Rattle.window.specs.declared.Node.{Node}
 use Rattle.window.specs.declared.Window.{Window}
 use Rattle.window.specs.declared.Way.{Way}
+
+-- the slots of the largest shape
+abbrev pub maxSlots : ℕ
+maxSlots = 3 * maxNodes
+
+-- the last number that a next round can have
+abbrev pub maxNext : ℕ
+maxNext = 4294967295
 
 -- a cluster of its own: mark m, pointer C, and perhaps a defect
 abbrev pub alone : ℕ → Bool → Node

@@ -1,10 +1,18 @@
 // What a window holds. The rules of its calls stand in specs/.
 use refusal::Refusal;
+use shape::MAX_DETECTORS;
+use shape::MAX_NODES;
 use shape::Shape;
 ghost use mathlib.Core.Path.{_≡_};
 ghost use Rattle.shape.specs.Sizes.{sheetsOf};
 ghost use Rattle.window.specs.Lists.{bit as bitOf};
 ghost use Rattle.window.specs.Window.{alone as aloneOf, isRest, isToGrow, isMerging, supplied as suppliedOf, ledTo};
+
+// The slots of the largest shape.
+pub const MAX_SLOTS: usize = 3 * MAX_NODES;
+
+// The last number that a next round can have.
+pub const MAX_NEXT: u32 = 4294967295;
 
 // A node's cluster mark: reset, or the number of a root.
 pub enum Mark {
@@ -33,10 +41,10 @@ pub struct Window {
     pub shape: Shape,
     pub stage: Stage,
     pub next: u32,
-    pub nodes: [Node; 3600],
-    pub growth: [u8; 10800],
-    pub correction: [bool; 10800],
-    pub measured: [bool; 210],
+    pub nodes: [Node; MAX_NODES],
+    pub growth: [u8; MAX_SLOTS],
+    pub correction: [bool; MAX_SLOTS],
+    pub measured: [bool; MAX_DETECTORS],
 }
 
 // What a step leads to: whether there is an edge, its slot, and the node at its other end.

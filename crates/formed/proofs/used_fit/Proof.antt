@@ -7,12 +7,13 @@ use borrow.Author.Needs.{needs}
 use borrow.Author.Tests.{not-true, not-false}
 use lib.ListN.{getD}
 use native.Mathlib.Nat.{add-zero, le-antisymm}
-use Rattle.shape.specs.Sizes.{sheetsOf}
+use Rattle.shape.specs.Sizes.{sheetsOf, maxNodes}
 use Rattle.shape.specs.Ranges.{both}
+use Rattle.shape.specs.LawsIndex.{nodes-max}
 use Rattle.steps.specs.Steps.{base}
 use Rattle.shape.specs.declared.Place.{Place}
 use Rattle.walk.specs.Walk.{Stands}
-use Rattle.walk.specs.LawsWalk.{first-place, walks, stands, peopled, nodes-max, depth-low, three-kinds, named-east, named-south, named-up}
+use Rattle.walk.specs.LawsWalk.{first-place, walks, stands, peopled, depth-low, three-kinds, named-east, named-south, named-up}
 use Rattle.window.specs.declared.Node.{Node}
 use Rattle.window.specs.declared.Window.{Window}
 use Rattle.window.specs.Lists.{every}
@@ -80,7 +81,7 @@ module _ (c : tie.In-loop Inv-loop μ-loop) where
   counted : c .before .loop .g < size (c .before .before .before .before .before .before .before .args .t1)
   counted = omega (arith, c .loop-test .taken, c .before .before .before .before .before .nodes .ensures)
 
-  low : c .before .loop .g < 3600
+  low : c .before .loop .g < maxNodes
   low = let w = c .before .before .before .before .before .before .before .args .t1 in omega (arith, counted, nodes-max (w .shape .height) (w .shape .distance))
 
   here : c .before .loop .place ≡ place (c .before .before .before .before .before .before .before .args .t1) (c .before .loop .g)

@@ -1,15 +1,15 @@
 -- `formed::well_formed` meets its contract. Assumes nothing.
 use mathlib.Core.Path.{_≡_, refl, sym, _∙_, ap}
 use mathlib.Core.Bool.{Bool, true, false, _&&_, not}
-use Prim.Native.Nat.{ℕ, _≤_, _<_, _-_, _*_}
+use Prim.Native.Nat.{ℕ, _≤_, _<_, _*_}
 use native.Mathlib.Omega.{arith}
 use borrow.Author.Needs.{needs}
 use borrow.Author.Tests.{le-leb, lt-leb, not-true, not-false}
 use lib.ListN.{drop}
 use lib.Dec.{leb}
 use Rattle.shape.specs.Sizes.{sheetsOf, inRange, detectorsOf}
+use Rattle.shape.specs.LawsIndex.{nodes-max}
 use Rattle.steps.specs.Steps.{base}
-use Rattle.walk.specs.LawsWalk.{nodes-max}
 use Rattle.window.specs.declared.Window.{Window}
 use Rattle.window.specs.Lists.{every, all}
 use Rattle.window.specs.Window.{size}

@@ -6,7 +6,7 @@ use native.Mathlib.Nat.{mul-le-mul}
 use native.Mathlib.Omega.{arith}
 use borrow.Author.Needs.{needs}
 use lib.ListN.{length, set, length-map}
-use Rattle.shape.specs.Sizes.{sheetsOf}
+use Rattle.shape.specs.Sizes.{sheetsOf, maxNodes}
 use Rattle.shape.specs.Nodes.{placeAt}
 use Rattle.steps.specs.Steps.{base}
 use Rattle.walk.specs.Walk.{Stands}
@@ -14,7 +14,7 @@ use Rattle.walk.specs.LawsWalk.{first-place, stands-at, stands-low, depth-low, 
 use Rattle.window.specs.Lists.{over}
 use Rattle.window.specs.LawsLists.{over-none, over-next}
 use Rattle.window.specs.LawsPresent.{supplied-le}
-use Rattle.window.specs.Window.{size, at, beyond}
+use Rattle.window.specs.Window.{size, at, beyond, maxSlots}
 use Rattle.window.specs.Grow.{grownNode, grownSlot, grown}
 use Rattle.window.specs.declared.Node.{Node}
 use Rattle.window.specs.declared.Stage.the-variants.{Merging}
@@ -63,10 +63,10 @@ Inv-loop w shape n there row sheet v₀ next₀ count₀ v next count = (count �
 abbrev μ-loop : tie.MeasureT-loop
 μ-loop w shape n there row sheet v₀ next₀ count₀ v next count = n - count
 
-long : (c : tie.Start Inv-loop μ-loop) → length (c .args .t1 .nodes) ≡ 3600
+long : (c : tie.Start Inv-loop μ-loop) → length (c .args .t1 .nodes) ≡ maxNodes
 long c = simp length-map at (c .good .0 .1 .1 .1 .1 .1 .0 .1 .0 .1)
 
-halves : (c : tie.Start Inv-loop μ-loop) → length (c .args .t1 .growth) ≡ 10800
+halves : (c : tie.Start Inv-loop μ-loop) → length (c .args .t1 .growth) ≡ maxSlots
 halves c = simp length-map at (c .good .0 .1 .1 .1 .1 .1 .1 .0 .1 .0 .1)
 
 -- the node of this turn
@@ -74,7 +74,7 @@ module _ (c : tie.In-loop Inv-loop μ-loop) where
   here : Stands (c .before .before .before .before .before .before .before .before .before .before .before .args .t1 .shape .height) (c .before .before .before .before .before .before .before .before .before .before .before .args .t1 .shape .distance) (c .before .loop .next) (c .before .loop .count)
   here = stands-at _ _ _ _ _ (c .before .before .before .before .before .before .before .before .before .nodes .ensures) (c .loop-test .taken) (c .before .loop .inv .1)
 
-  low : c .before .loop .count < 3600
+  low : c .before .loop .count < maxNodes
   low = stands-low _ _ _ _ here
 
   placed : c .before .loop .next ≡ placeAt (c .before .before .before .before .before .before .before .before .before .before .before .args .t1 .shape .height) (c .before .before .before .before .before .before .before .before .before .before .before .args .t1 .shape .distance) (c .before .loop .count)

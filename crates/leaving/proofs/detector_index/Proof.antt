@@ -23,16 +23,16 @@ div-t5 : tie.Need-div-t5
 div-t5 c = let s = c .before .before in let r = ranged (s .args .shape .height) (s .args .shape .distance) (s .pre .0) in width _ _ r _ (s .pre .1)
 
 cast-t7 : tie.Need-cast-t7
-cast-t7 c = let s = c .before .before in let r = ranged (s .args .shape .height) (s .args .shape .distance) (s .pre .0) in omega (arith, detector-row _ _ r _ (s .pre .1), r .h15)
+cast-t7 c = let s = c .before .before in let r = ranged (s .args .shape .height) (s .args .shape .distance) (s .pre .0) in omega (arith, detector-row _ _ r _ (s .pre .1), r .h-max)
 
 rem-t8 : tie.Need-rem-t8
 rem-t8 c = let s = c .before .before in let r = ranged (s .args .shape .height) (s .args .shape .distance) (s .pre .0) in width _ _ r _ (s .pre .1)
 
 add-t9 : tie.Need-add-t9
-add-t9 c = let s = c .before .before in let r = ranged (s .args .shape .height) (s .args .shape .distance) (s .pre .0) in omega (arith, detector-column _ _ r _ (s .pre .1), r .d15)
+add-t9 c = let s = c .before .before in let r = ranged (s .args .shape .height) (s .args .shape .distance) (s .pre .0) in omega (arith, detector-column _ _ r _ (s .pre .1), r .d-max)
 
 cast-t10 : tie.Need-cast-t10
-cast-t10 c = let s = c .before .before in let r = ranged (s .args .shape .height) (s .args .shape .distance) (s .pre .0) in omega (arith, detector-column _ _ r _ (s .pre .1), r .d15)
+cast-t10 c = let s = c .before .before in let r = ranged (s .args .shape .height) (s .args .shape .distance) (s .pre .0) in omega (arith, detector-column _ _ r _ (s .pre .1), r .d-max)
 
 index-of-requires : tie.Need-index-of-requires
 index-of-requires c κs = search needs

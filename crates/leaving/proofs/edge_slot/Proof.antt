@@ -3,7 +3,7 @@ use mathlib.Core.Path.{_≡_, sym, _∙_}
 use Prim.Native.Nat.{ℕ, _<_, _-_, _+_, _*_}
 use native.Mathlib.Omega.{arith}
 use borrow.Author.Needs.{needs}
-use Rattle.shape.specs.Sizes.{sheetsOf, layerEdgesOf}
+use Rattle.shape.specs.Sizes.{sheetsOf, layerEdgesOf, maxNodes}
 use Rattle.shape.specs.Ranges.{Ranged, ranged}
 use Rattle.shape.specs.Nodes.{indexOf}
 use Rattle.steps.specs.Steps.{base}
@@ -31,7 +31,7 @@ module _ (h d : ℕ) (r : Ranged h d) (i : ℕ) (l : i < layerEdgesOf h d) (e : 
   node : n ≡ indexOf h d (record { depth = sheetsOf d - 1; row = edgeOf h d i .row; column = edgeOf h d i .column })
   node = a ∙ rw (s, same)
 
-  node-low : n < 3600
+  node-low : n < maxNodes
   node-low = rw node (edge-node-low h d r i l)
 
   slot-is : 3 * n + e .kind ≡ edgeSlot base h d (sheetsOf d - 1) (edgeOf h d i)

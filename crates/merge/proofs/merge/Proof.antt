@@ -7,18 +7,19 @@ use borrow.Author.Needs.{needs}
 use borrow.Author.Tests.{not-true}
 use lib.ListN.{length, length-map, getD, replicate}
 use Rattle.shape.specs.Choice.{whether}
-use Rattle.shape.specs.Sizes.{sheetsOf}
+use Rattle.shape.specs.Sizes.{sheetsOf, maxNodes}
+use Rattle.shape.specs.LawsIndex.{nodes-max}
 use Rattle.steps.specs.Steps.{base}
 use Rattle.window.specs.Lists.{over, any}
 use Rattle.window.specs.LawsLists.{over-none, over-next, over-three, any-none, any-next}
 use Rattle.window.specs.LawsPresent.{supplied-le}
-use Rattle.window.specs.Window.{size, at}
+use Rattle.window.specs.Window.{size, at, maxSlots}
 use Rattle.window.specs.declared.Seen.{Seen}
 use Rattle.window.specs.declared.Stepped.{Stepped}
 use Rattle.window.specs.Merging.{nothing, sees, stepAt, flippedSlot, seen as seenFrom}
 use Rattle.walk.specs.Walk.{Stands}
-use Rattle.walk.specs.LawsWalk.{stands-at, ends-low, nodes-max, named-east, named-south, named-up}
-use Rattle.stir.specs.Stirred.{stirred as stirredBy}
+use Rattle.walk.specs.LawsWalk.{stands-at, ends-low, named-east, named-south, named-up}
+use Rattle.stir.specs.Stirred.{margin, stirred as stirredBy}
 use Rattle.merge.proofs.Turn.{merged-by, seen-by, step-by, bit-by, seen-all}
 use Rattle.merge.proofs.Calm.{nodes-pass, busy-pass, slots-pass}
 use Rattle.merge.proofs.merge.Statement.{statement}
@@ -45,15 +46,15 @@ abbrev μ-nodes : tie.MeasureT-nodes
 counted : (c : tie.In-nodes Inv-look μ-look Inv-nodes μ-nodes) → c .before .nodes .g < size (c .before .before .before .before .before .before .before .before .before .before .args .t1)
 counted c = subst (λ (n : ℕ). c .before .nodes .g < n) (c .before .before .before .before .before .before .before .before .nodes2 .ensures) (c .nodes-test .taken)
 
-low : (c : tie.In-nodes Inv-look μ-look Inv-nodes μ-nodes) → c .before .nodes .g < 3600
+low : (c : tie.In-nodes Inv-look μ-look Inv-nodes μ-nodes) → c .before .nodes .g < maxNodes
 low c = omega (arith, counted c, nodes-max (c .before .before .before .before .before .before .before .before .before .before .args .t1 .shape .height) (c .before .before .before .before .before .before .before .before .before .before .args .t1 .shape .distance))
 
 -- a node that is passed by was marked by none
-unstirred : (c : tie.In-nodes Inv-look μ-look Inv-nodes μ-nodes) → not (getD (c .before .before .before .stirred-nodes .result) (c .before .nodes .g + 240) false) ≡ true
-    → getD (stirredBy (c .before .before .before .before .before .before .before .before .before .before .args .t1 .shape .distance + 1) (c .before .before .before .before .before .before .before .before .before .before .args .t1 .shape .height * (c .before .before .before .before .before .before .before .before .before .before .args .t1 .shape .distance + 1)) (c .before .before .before .before .before .before .before .before .before .before .args .t1 .nodes) (c .before .before .before .before .before .before .before .before .before .before .args .t1 .growth) (size (c .before .before .before .before .before .before .before .before .before .before .args .t1))) (c .before .nodes .g + 240) false ≡ false
+unstirred : (c : tie.In-nodes Inv-look μ-look Inv-nodes μ-nodes) → not (getD (c .before .before .before .stirred-nodes .result) (c .before .nodes .g + margin) false) ≡ true
+    → getD (stirredBy (c .before .before .before .before .before .before .before .before .before .before .args .t1 .shape .distance + 1) (c .before .before .before .before .before .before .before .before .before .before .args .t1 .shape .height * (c .before .before .before .before .before .before .before .before .before .before .args .t1 .shape .distance + 1)) (c .before .before .before .before .before .before .before .before .before .before .args .t1 .nodes) (c .before .before .before .before .before .before .before .before .before .before .args .t1 .growth) (size (c .before .before .before .before .before .before .before .before .before .before .args .t1))) (c .before .nodes .g + margin) false ≡ false
 unstirred c e =
-    subst (λ (n : ℕ). getD (stirredBy (c .before .before .before .before .before .before .before .before .before .before .args .t1 .shape .distance + 1) (c .before .before .before .before .before .before .before .before .before .before .args .t1 .shape .height * (c .before .before .before .before .before .before .before .before .before .before .args .t1 .shape .distance + 1)) (c .before .before .before .before .before .before .before .before .before .before .args .t1 .nodes) (c .before .before .before .before .before .before .before .before .before .before .args .t1 .growth) n) (c .before .nodes .g + 240) false ≡ false) (c .before .before .before .before .before .before .before .before .nodes2 .ensures)
-    (rw (c .before .before .before .stirred-nodes .ensures) at (not-true (getD (c .before .before .before .stirred-nodes .result) (c .before .nodes .g + 240) false) e))
+    subst (λ (n : ℕ). getD (stirredBy (c .before .before .before .before .before .before .before .before .before .before .args .t1 .shape .distance + 1) (c .before .before .before .before .before .before .before .before .before .before .args .t1 .shape .height * (c .before .before .before .before .before .before .before .before .before .before .args .t1 .shape .distance + 1)) (c .before .before .before .before .before .before .before .before .before .before .args .t1 .nodes) (c .before .before .before .before .before .before .before .before .before .before .args .t1 .growth) n) (c .before .nodes .g + margin) false ≡ false) (c .before .before .before .before .before .before .before .before .nodes2 .ensures)
+    (rw (c .before .before .before .stirred-nodes .ensures) at (not-true (getD (c .before .before .before .stirred-nodes .result) (c .before .nodes .g + margin) false) e))
 
 turn : (c : tie.After-place-at Inv-look μ-look Inv-nodes μ-nodes) → Stands (c .before .before .before .before .before .before .before .before .before .before .before .before .args .t1 .shape .height) (c .before .before .before .before .before .before .before .before .before .before .before .before .args .t1 .shape .distance) (c .place-at .result) (c .before .before .before .nodes .g)
 turn c = stands-at _ _ _ _ _ (c .before .before .before .before .before .before .before .before .before .before .nodes2 .ensures) (c .before .before .nodes-test .taken) (λ h1. c .place-at .ensures)
@@ -62,13 +63,13 @@ turn c = stands-at _ _ _ _ _ (c .before .before .before .before .before .before 
 few : (c : tie.In-look Inv-look μ-look Inv-nodes μ-nodes) → c .before .before .before .before .before .before .before .before .before .before .before .before .present .result ≤ sheetsOf (c .before .before .before .before .before .before .before .before .before .before .before .before .before .before .before .args .t1 .shape .distance)
 few c = let w = c .before .before .before .before .before .before .before .before .before .before .before .before .before .before .before .args .t1 in rw (c .before .before .before .before .before .before .before .before .before .before .before .before .present .ensures) (supplied-le (w .shape .distance) (w .next) (sheetsOf (w .shape .distance)))
 
-way : (c : tie.After-reach Inv-look μ-look Inv-nodes μ-nodes) → (c .reach .result .node < 3600) × (c .reach .result .slot < 10800)
+way : (c : tie.After-reach Inv-look μ-look Inv-nodes μ-nodes) → (c .reach .result .node < maxNodes) × (c .reach .result .slot < maxSlots)
 way c = ends-low _ _ _ _ _ _ (turn (c .before .before .before .before) .ranged) (few (c .before)) (c .reach .ensures)
 
-nodes-length : (c : tie.Start Inv-look μ-look Inv-nodes μ-nodes) → length (c .args .t1 .nodes) ≡ 3600
+nodes-length : (c : tie.Start Inv-look μ-look Inv-nodes μ-nodes) → length (c .args .t1 .nodes) ≡ maxNodes
 nodes-length c = simp length-map at (c .good .0 .1 .1 .1 .1 .1 .0 .1 .0 .1)
 
-correction-length : (c : tie.Start Inv-look μ-look Inv-nodes μ-nodes) → length (c .args .t1 .correction) ≡ 10800
+correction-length : (c : tie.Start Inv-look μ-look Inv-nodes μ-nodes) → length (c .args .t1 .correction) ≡ maxSlots
 correction-length c = simp length-map at (c .good .0 .1 .1 .1 .1 .1 .1 .1 .0 .1 .0 .1)
 
 nodes-requires : tie.Need-nodes-requires Inv-look μ-look Inv-nodes μ-nodes

@@ -6,6 +6,7 @@ use borrow.Author.Needs.{needs}
 use lib.Seq.{length-take-le}
 use lib.ListN.{length, take, replicate}
 use Rattle.refusal.specs.Bytes.{Bytes}
+use Rattle.shape.specs.Sizes.{maxDetectors}
 use Rattle.shape.specs.LawsSizes.{detectors-le}
 use Rattle.shape.specs.Ranges.{in-range}
 use Rattle.steps.specs.Steps.{base}
@@ -16,12 +17,12 @@ use Rattle.one_record.proofs.decode_read.Statement.{statement}
 use Rattle.one_record.proofs.decode_read.Tie as tie
 
 -- the round's bytes have room in the array
-low : (c : tie.After-detectors) → c .detectors .result ≤ 210
+low : (c : tie.After-detectors) → c .detectors .result ≤ maxDetectors
 low c =
     let s = c .before .before .before in
     omega (arith, c .detectors .ensures, detectors-le (s .args .w .shape .height) (s .args .w .shape .distance) (facts base (s .args .w) (s .pre .0) .ranged))
 
-lent : (c : tie.After-detectors) → length (take (c .detectors .result) (replicate {A = ℕ} 210 0)) ≡ c .detectors .result
+lent : (c : tie.After-detectors) → length (take (c .detectors .result) (replicate {A = ℕ} maxDetectors 0)) ≡ c .detectors .result
 lent c = length-take-le _ _ (low c)
 
 stream : (c : tie.After-shared-slice-known) → Bytes (c .before .args .src .now)
@@ -33,7 +34,7 @@ found c =
     let p = c .before .before .before .before .before .pre in
     record {
       fine = record { formed = p .0; rest = p .1 .0; next = p .1 .1 .0; inside = p .1 .1 .1 .0; room = p .1 .1 .1 .1 };
-      part = take (c .before .before .detectors .result) (replicate {A = ℕ} 210 0);
+      part = take (c .before .before .detectors .result) (replicate {A = ℕ} maxDetectors 0);
       long = lent (c .before .before) ∙ c .before .before .detectors .ensures;
       read = c .read-list .ensures;
     }

@@ -7,6 +7,7 @@ use mathlib.Core.List.{List}
 use borrow.Author.Needs.{needs}
 use lib.ListN.{length, take, replicate}
 use lib.Seq.{length-take-le}
+use Rattle.shape.specs.Sizes.{maxDetectors}
 use Rattle.shape.specs.LawsSizes.{detectors-le}
 use Rattle.shape.specs.Ranges.{ranged}
 use Rattle.steps.specs.Steps.{base}
@@ -24,10 +25,10 @@ unfolding measuring
 after w v bytes defects edges escapes sheet d e s =
     ap (λ (r : Round). asRound (withSheet (r .window) sheet) (r .edges) (r .escapes)) (e ∙ ap (receiving base w) d) ∙ rw s
 
-low : (c : tie.Start) → length (c .args .bytes .now) ≤ 210
+low : (c : tie.Start) → length (c .args .bytes .now) ≤ maxDetectors
 low c = omega (arith, c .pre .1 .1 .0, detectors-le (c .args .w .shape .height) (c .args .w .shape .distance) (ranged _ _ (c .pre .0)))
 
-lent : (c : tie.Start) → length (take (length (c .args .bytes .now)) (replicate {A = ℕ} 210 0)) ≡ length (c .args .bytes .now)
+lent : (c : tie.Start) → length (take (length (c .args .bytes .now)) (replicate {A = ℕ} maxDetectors 0)) ≡ length (c .args .bytes .now)
 lent c = length-take-le _ _ (low c)
 
 full : (c : tie.After-differences) → Fills (length (c .before .before .before .before .before .before .before .before .args .bytes .now)) (c .differences .last .1 .1 .0)

@@ -6,6 +6,7 @@ use mathlib.Core.Bool.{Bool, false}
 use mathlib.Core.List.{List}
 use borrow.Author.Needs.{needs}
 use lib.ListN.{length, replicate, length-replicate}
+use Rattle.shape.specs.Sizes.{maxDetectors}
 use Rattle.window.specs.Lists.{over}
 use Rattle.window.specs.LawsLists.{over-none, over-next}
 use Rattle.window.specs.Measured.{isSet, asSheet}
@@ -13,7 +14,7 @@ use Rattle.raw.proofs.sheet_of.Statement.{statement}
 use Rattle.raw.proofs.sheet_of.Tie as tie
 
 abbrev empty : List Bool
-empty = replicate 210 false
+empty = replicate maxDetectors false
 
 ends : (bytes : List ℕ) (sheet : List Bool) (i : ℕ) → i ≤ length bytes → length bytes ≤ i → sheet ≡ over i (isSet bytes) empty → sheet ≡ asSheet bytes
 unfolding asSheet
@@ -41,7 +42,7 @@ loop-less : tie.Need-loop-less Inv-loop μ-loop
 loop-less c = search needs
 
 loop-again : tie.Need-loop-again Inv-loop μ-loop
-loop-again c = (search needs, over-next (isSet (c .before .before .before .args .bytes .now)) empty _ _ _ (omega (arith, length-replicate 210 false, c .before .before .before .pre)) (c .before .before .loop .inv .1) refl)
+loop-again c = (search needs, over-next (isSet (c .before .before .before .args .bytes .now)) empty _ _ _ (omega (arith, length-replicate maxDetectors false, c .before .before .before .pre)) (c .before .before .loop .inv .1) refl)
 
 returns : tie.Need-returns Inv-loop μ-loop
 returns c = ends _ _ _ (c .before .loop .inv .0) (omega arith) (c .before .loop .inv .1)

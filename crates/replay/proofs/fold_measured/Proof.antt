@@ -2,6 +2,7 @@
 use Prim.Native.Nat.{_-_}
 use native.Mathlib.Omega.{arith}
 use borrow.Author.Needs.{needs}
+use Rattle.shape.specs.Sizes.{maxDetectors}
 use Rattle.replay.proofs.fold_measured.Statement.{statement}
 use Rattle.replay.proofs.fold_measured.Tie as tie
 
@@ -9,7 +10,7 @@ abbrev Inv-loop : tie.InvT-loop
 Inv-loop measured sum₀ i₀ sum i = Unit {0}
 
 abbrev μ-loop : tie.MeasureT-loop
-μ-loop measured sum₀ i₀ sum i = 210 - i
+μ-loop measured sum₀ i₀ sum i = maxDetectors - i
 
 loop-holds : tie.Need-loop-holds Inv-loop μ-loop
 loop-holds c = tt

@@ -2,6 +2,7 @@
 use Prim.Native.Nat.{_-_}
 use native.Mathlib.Omega.{arith}
 use borrow.Author.Needs.{needs}
+use Rattle.window.specs.Window.{maxSlots}
 use Rattle.replay.proofs.mix_growth.Statement.{statement}
 use Rattle.replay.proofs.mix_growth.Tie as tie
 
@@ -9,7 +10,7 @@ abbrev Inv-loop : tie.InvT-loop
 Inv-loop digest growth sum₀ e₀ sum e = Unit {0}
 
 abbrev μ-loop : tie.MeasureT-loop
-μ-loop digest growth sum₀ e₀ sum e = 10800 - e
+μ-loop digest growth sum₀ e₀ sum e = maxSlots - e
 
 loop-holds : tie.Need-loop-holds Inv-loop μ-loop
 loop-holds c = tt

@@ -2,6 +2,7 @@
 use Prim.Native.Nat.{_-_}
 use native.Mathlib.Omega.{arith}
 use borrow.Author.Needs.{needs}
+use Rattle.shape.specs.Sizes.{maxNodes}
 use Rattle.replay.proofs.mix_nodes.Statement.{statement}
 use Rattle.replay.proofs.mix_nodes.Tie as tie
 
@@ -9,7 +10,7 @@ abbrev Inv-loop : tie.InvT-loop
 Inv-loop digest w sum₀ g₀ sum g = Unit {0}
 
 abbrev μ-loop : tie.MeasureT-loop
-μ-loop digest w sum₀ g₀ sum g = 3600 - g
+μ-loop digest w sum₀ g₀ sum g = maxNodes - g
 
 loop-holds : tie.Need-loop-holds Inv-loop μ-loop
 loop-holds c = tt

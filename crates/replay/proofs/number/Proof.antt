@@ -2,6 +2,7 @@
 use Prim.Native.Nat.{_-_}
 use native.Mathlib.Omega.{arith}
 use borrow.Author.Needs.{needs}
+use Rattle.replay.proofs.Script.{scriptBytes}
 use Rattle.replay.proofs.number.Statement.{statement}
 use Rattle.replay.proofs.number.Tie as tie
 
@@ -9,7 +10,7 @@ abbrev Inv-loop : tie.InvT-loop
 Inv-loop script from i₀ value₀ i value = Unit {0}
 
 abbrev μ-loop : tie.MeasureT-loop
-μ-loop script from i₀ value₀ i value = 65536 - i
+μ-loop script from i₀ value₀ i value = scriptBytes - i
 
 digit-from-requires : tie.Need-digit-from-requires Inv-loop μ-loop
 digit-from-requires c κs = tt

@@ -32,7 +32,7 @@ mul-result : tie.Need-mul-result
 mul-result c = search needs
 
 add-result : tie.Need-add-result
-add-result c = let s = c .before .before .before .before in let r = ranged (s .args .shape .height) (s .args .shape .distance) (s .pre) in let e = c .before .sheets .ensures in omega (arith, sides-le _ _ _ r e, c .if1 .taken, r .h15)
+add-result c = let s = c .before .before .before .before in let r = ranged (s .args .shape .height) (s .args .shape .distance) (s .pre) in let e = c .before .sheets .ensures in omega (arith, sides-le _ _ _ r e, c .if1 .taken, r .h-max)
 
 returns : tie.Need-returns
 returns c = let s = c .before .before .before .before in let r = ranged (s .args .shape .height) (s .args .shape .distance) (s .pre) in let e = c .before .sheets .ensures in lower-side _ _ _ r e _ (c .if1 .taken)
@@ -68,10 +68,10 @@ add-if3-2 : tie.Need-add-if3-2
 add-if3-2 c = let s = c .before .before .before .before .before in let r = ranged (s .args .shape .height) (s .args .shape .distance) (s .pre) in let e = c .before .before .sheets .ensures in omega (arith, boundary-le _ _ _ r e, inner-le _ _ _ r e)
 
 mul-result-2 : tie.Need-mul-result-2
-mul-result-2 c = let s = c .before .before .before .before .before .before in let r = ranged (s .args .shape .height) (s .args .shape .distance) (s .pre) in let e = c .before .before .before .sheets .ensures in omega (arith, detectors-le _ _ r, r .d15)
+mul-result-2 c = let s = c .before .before .before .before .before .before in let r = ranged (s .args .shape .height) (s .args .shape .distance) (s .pre) in let e = c .before .before .before .sheets .ensures in omega (arith, detectors-le _ _ r, r .d-max)
 
 add-result-2 : tie.Need-add-result-2
-add-result-2 c = let s = c .before .before .before .before .before .before in let r = ranged (s .args .shape .height) (s .args .shape .distance) (s .pre) in let e = c .before .before .before .sheets .ensures in omega (arith, c .if3 .taken, boundary-le _ _ _ r e, inner-le _ _ _ r e, detectors-le _ _ r, r .d15)
+add-result-2 c = let s = c .before .before .before .before .before .before in let r = ranged (s .args .shape .height) (s .args .shape .distance) (s .pre) in let e = c .before .before .before .sheets .ensures in omega (arith, c .if3 .taken, boundary-le _ _ _ r e, inner-le _ _ _ r e, detectors-le _ _ r, r .d-max)
 
 returns-3 : tie.Need-returns-3
 returns-3 c = let s = c .before .before .before .before .before .before in let r = ranged (s .args .shape .height) (s .args .shape .distance) (s .pre) in let e = c .before .before .before .sheets .ensures in lower-inner _ _ _ r e _ (c .before .before .if1 .left) (c .before .if2 .left) (c .if3 .taken)

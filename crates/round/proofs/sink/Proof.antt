@@ -6,14 +6,15 @@ use Prim.Native.Nat.{ℕ, _≤_, _<_, _-_, _+_, _*_}
 use native.Mathlib.Omega.{arith}
 use borrow.Author.Needs.{needs}
 use lib.ListN.{length, set, length-map}
-use Rattle.shape.specs.Sizes.{nodesOf, inRange}
+use Rattle.shape.specs.Sizes.{nodesOf, inRange, maxNodes}
 use Rattle.shape.specs.Ranges.{in-range}
+use Rattle.shape.specs.LawsIndex.{nodes-max}
 use Rattle.steps.specs.Steps.{base}
 use Rattle.shape.specs.declared.Place.{Place}
-use Rattle.walk.specs.LawsWalk.{first-place, walks-on, stands-at, peopled, nodes-max, depth-low}
+use Rattle.walk.specs.LawsWalk.{first-place, walks-on, stands-at, peopled, depth-low}
 use Rattle.window.specs.Lists.{over}
 use Rattle.window.specs.LawsLists.{over-none, over-next}
-use Rattle.window.specs.Window.{sheet, at, place}
+use Rattle.window.specs.Window.{sheet, at, place, maxSlots}
 use Rattle.window.specs.Round.{topNode, sunk, fallenNode, rounded}
 use Rattle.window.specs.declared.Node.{Node}
 use Rattle.window.specs.declared.Stage.the-variants.{ToGrow}
@@ -37,7 +38,7 @@ starts w bytes = ap (falling w) (sym (over-none _ _))
 
 -- n nodes, k of them in a sheet
 module _ (w : Window) (n k : ℕ) (size : n ≡ nodesOf (w .shape .height) (w .shape .distance)) (s : k ≡ sheetNodes (w .shape .height) (w .shape .distance)) where
-  n-low : n ≤ 3600
+  n-low : n ≤ maxNodes
   n-low = omega (arith, nodes-max (w .shape .height) (w .shape .distance))
 
   k-low : 2 * k ≤ n
@@ -53,7 +54,7 @@ module _ (w : Window) (n k : ℕ) (size : n ≡ nodesOf (w .shape .height) (w .s
     k-is : k ≡ sheet w
     k-is = s ∙ sheet-is (w .shape .height) (w .shape .distance) g there
 
-    module _ (bytes : List ℕ) (v : Window) (so-far : Fallen w bytes v g) (full : length (w .nodes) ≡ 3600) where
+    module _ (bytes : List ℕ) (v : Window) (so-far : Fallen w bytes v g) (full : length (w .nodes) ≡ maxNodes) where
       stored : (x : Node) → x ≡ fallenNode w bytes g
           → Fallen w bytes (record { shape = v .shape; stage = v .stage; next = v .next; nodes = set (v .nodes) g x; growth = v .growth; correction = v .correction; measured = v .measured }) (g + 1)
       stored x e =
@@ -89,13 +90,13 @@ Inv-loop2 bytes w shape n sheet v₀ g₀ v g = (sheet ≤ g) × (g ≤ n) × Fa
 abbrev μ-loop2 : tie.MeasureT-loop2
 μ-loop2 bytes w shape n sheet v₀ g₀ v g = n - g
 
-nodes-length : (c : tie.Start Inv-loop μ-loop Inv-loop2 μ-loop2) → length (c .args .t1 .nodes) ≡ 3600
+nodes-length : (c : tie.Start Inv-loop μ-loop Inv-loop2 μ-loop2) → length (c .args .t1 .nodes) ≡ maxNodes
 nodes-length c = simp length-map at (c .good .0 .1 .1 .1 .1 .1 .0 .1 .0 .1)
 
-growth-length : (c : tie.Start Inv-loop μ-loop Inv-loop2 μ-loop2) → length (c .args .t1 .growth) ≡ 10800
+growth-length : (c : tie.Start Inv-loop μ-loop Inv-loop2 μ-loop2) → length (c .args .t1 .growth) ≡ maxSlots
 growth-length c = simp length-map at (c .good .0 .1 .1 .1 .1 .1 .1 .0 .1 .0 .1)
 
-correction-length : (c : tie.Start Inv-loop μ-loop Inv-loop2 μ-loop2) → length (c .args .t1 .correction) ≡ 10800
+correction-length : (c : tie.Start Inv-loop μ-loop Inv-loop2 μ-loop2) → length (c .args .t1 .correction) ≡ maxSlots
 correction-length c = simp length-map at (c .good .0 .1 .1 .1 .1 .1 .1 .1 .0 .1 .0 .1)
 
 nodes-requires : tie.Need-nodes-requires Inv-loop μ-loop Inv-loop2 μ-loop2

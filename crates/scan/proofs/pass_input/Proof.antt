@@ -5,6 +5,7 @@ use mathlib.Core.Path.{_≡_, sym, _∙_}
 use borrow.Author.Needs.{needs}
 use lib.ListN.{length, take, replicate}
 use lib.Seq.{length-take-le}
+use Rattle.shape.specs.Sizes.{maxDetectors}
 use Rattle.shape.specs.LawsSizes.{detectors-le}
 use Rattle.shape.specs.Ranges.{ranged}
 use Rattle.scan.specs.Passed.{round-passed}
@@ -12,15 +13,15 @@ use Rattle.scan.proofs.pass_input.Statement.{statement}
 use Rattle.scan.proofs.pass_input.Tie as tie
 
 -- the buffer has room for a round
-low : (c : tie.After-detectors) → c .detectors .result ≤ 210
+low : (c : tie.After-detectors) → c .detectors .result ≤ maxDetectors
 low c =
     let s = c .before .before in
     let h = s .args .shape .height in
     let d = s .args .shape .distance in
     omega (arith, c .detectors .ensures, detectors-le h d (ranged h d (s .pre .0)))
 
-lent : (c : tie.After-detectors) → length {A = ℕ} (take (c .detectors .result) (replicate 210 0)) ≡ c .detectors .result
-lent c = length-take-le (c .detectors .result) (replicate 210 0) (low c)
+lent : (c : tie.After-detectors) → length {A = ℕ} (take (c .detectors .result) (replicate maxDetectors 0)) ≡ c .detectors .result
+lent c = length-take-le (c .detectors .result) (replicate maxDetectors 0) (low c)
 
 detectors-requires : tie.Need-detectors-requires
 detectors-requires c κs = search needs
@@ -39,7 +40,7 @@ returns c =
     let t = c .before in
     let d = t .before .before in
     let s = d .before .before in
-    round-passed (s .args .src .now) (s .args .shape) (s .args .at) (s .pre .0) (s .pre .1) (t .read-round .result) (take (d .detectors .result) (replicate 210 0)) _
+    round-passed (s .args .src .now) (s .args .shape) (s .args .at) (s .pre .0) (s .pre .1) (t .read-round .result) (take (d .detectors .result) (replicate maxDetectors 0)) _
     (lent d ∙ d .detectors .ensures) (t .read-round .ensures)
 
 pub pass-input-spec : {M : Type 1} → statement M

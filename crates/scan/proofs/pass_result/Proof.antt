@@ -7,6 +7,7 @@ use lib.ListN.{length, take, replicate}
 use lib.Seq.{length-take-le}
 use Rattle.refusal.specs.Answer.{withoutValue}
 use Rattle.refusal.specs.Laws.{turned-passed}
+use Rattle.shape.specs.Sizes.{maxLayerEdges, maxDetectors}
 use Rattle.shape.specs.LawsSizes.{detectors-le, layer-le}
 use Rattle.shape.specs.Ranges.{ranged}
 use Rattle.record.specs.Calls.{resultAnswer}
@@ -17,25 +18,25 @@ use Rattle.scan.proofs.pass_result.Statement.{statement}
 use Rattle.scan.proofs.pass_result.Tie as tie
 
 -- the buffers have room for a round
-few : (c : tie.After-layer-edges) → c .layer-edges .result ≤ 631
+few : (c : tie.After-layer-edges) → c .layer-edges .result ≤ maxLayerEdges
 few c =
     let s = c .before .before in
     let h = s .args .shape .height in
     let d = s .args .shape .distance in
     omega (arith, c .layer-edges .ensures, layer-le h d (ranged h d (s .pre .0)))
 
-low : (c : tie.After-detectors) → c .detectors .result ≤ 210
+low : (c : tie.After-detectors) → c .detectors .result ≤ maxDetectors
 low c =
     let s = c .before .before .before in
     let h = s .args .shape .height in
     let d = s .args .shape .distance in
     omega (arith, c .detectors .ensures, detectors-le h d (ranged h d (s .pre .0)))
 
-lent-edges : (c : tie.After-layer-edges) → length {A = ℕ} (take (c .layer-edges .result) (replicate 631 0)) ≡ c .layer-edges .result
-lent-edges c = length-take-le (c .layer-edges .result) (replicate 631 0) (few c)
+lent-edges : (c : tie.After-layer-edges) → length {A = ℕ} (take (c .layer-edges .result) (replicate maxLayerEdges 0)) ≡ c .layer-edges .result
+lent-edges c = length-take-le (c .layer-edges .result) (replicate maxLayerEdges 0) (few c)
 
-lent : (c : tie.After-detectors) → length {A = ℕ} (take (c .detectors .result) (replicate 210 0)) ≡ c .detectors .result
-lent c = length-take-le (c .detectors .result) (replicate 210 0) (low c)
+lent : (c : tie.After-detectors) → length {A = ℕ} (take (c .detectors .result) (replicate maxDetectors 0)) ≡ c .detectors .result
+lent c = length-take-le (c .detectors .result) (replicate maxDetectors 0) (low c)
 
 -- what is found is the round
 found : (c : tie.After-read-result) →
@@ -45,8 +46,8 @@ found c =
     let d = c .before .before .before in
     let s = d .before .before .before in
     result-passed (s .args .src .now) (s .args .shape) (s .args .at) (s .pre .0) (s .pre .1) (c .read-result .result)
-    (take (d .before .layer-edges .result) (replicate 631 0))
-    (take (d .detectors .result) (replicate 210 0))
+    (take (d .before .layer-edges .result) (replicate maxLayerEdges 0))
+    (take (d .detectors .result) (replicate maxDetectors 0))
     _
     _
     (lent-edges (d .before) ∙ d .before .layer-edges .ensures)

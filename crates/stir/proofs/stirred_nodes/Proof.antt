@@ -4,9 +4,9 @@ use Prim.Native.Nat.{ℕ, _≤_, _<_, _-_, _+_, _*_}
 use native.Mathlib.Nat.{mul-le-mul}
 use native.Mathlib.Omega.{arith}
 use borrow.Author.Needs.{needs}
-use Rattle.shape.specs.Sizes.{nodesOf}
-use Rattle.walk.specs.LawsWalk.{nodes-max}
-use Rattle.stir.specs.Stirred.{stirred as stirredBy, Room}
+use Rattle.shape.specs.Sizes.{nodesOf, maxNodes}
+use Rattle.shape.specs.LawsIndex.{nodes-max}
+use Rattle.stir.specs.Stirred.{margin, stirred as stirredBy, Room}
 use Rattle.stir.specs.Marks.{room, within-low, no-marks, all-marks, pass-marks, next-uneven}
 use Rattle.stir.proofs.stirred_nodes.Statement.{statement}
 use Rattle.stir.proofs.stirred_nodes.Tie as tie
@@ -20,10 +20,10 @@ abbrev μ-marks : tie.MeasureT-marks
 counted : (c : tie.In-marks Inv-marks μ-marks) → c .before .marks .g < nodesOf (c .before .before .before .before .args .shape .height) (c .before .before .before .before .args .shape .distance)
 counted c = subst (λ (n : ℕ). c .before .marks .g < n) (c .before .before .before .before .pre) (c .marks-test .taken)
 
-low : (c : tie.In-marks Inv-marks μ-marks) → c .before .marks .g < 3600
+low : (c : tie.In-marks Inv-marks μ-marks) → c .before .marks .g < maxNodes
 low c = omega (arith, counted c, nodes-max (c .before .before .before .before .args .shape .height) (c .before .before .before .before .args .shape .distance))
 
-spacious : (c : tie.In-marks Inv-marks μ-marks) → Room (c .before .marks .g + 240) (c .before .before .before .before .args .shape .distance + 1) (c .before .before .before .before .args .shape .height * (c .before .before .before .before .args .shape .distance + 1))
+spacious : (c : tie.In-marks Inv-marks μ-marks) → Room (c .before .marks .g + margin) (c .before .before .before .before .args .shape .distance + 1) (c .before .before .before .before .args .shape .height * (c .before .before .before .before .args .shape .distance + 1))
 spacious c = room _ _ _ (counted c)
 
 cast-row : tie.Need-cast-row Inv-marks μ-marks

@@ -6,6 +6,7 @@ use borrow.Author.Needs.{needs}
 use borrow.Author.Tests.{not-true, not-false}
 use lib.Seq.{length-take-le}
 use lib.ListN.{length, take, replicate}
+use Rattle.shape.specs.Sizes.{maxLayerEdges, maxDetectors}
 use Rattle.window.specs.LawsLists.{Fills, part-fits, part-back, part-long}
 use Rattle.turn.proofs.Parts.{detectors-le, edges-le, edges-fill, escapes-fill}
 use Rattle.turn.proofs.Written.{Put, round-spent, round-full, round-written}
@@ -13,20 +14,20 @@ use Rattle.turn.proofs.decode_round.Statement.{statement}
 use Rattle.turn.proofs.decode_round.Tie as tie
 
 -- the edges and the escapes have room in their arrays
-edges-low : (c : tie.After-layer-edges) → c .layer-edges .result ≤ 631
+edges-low : (c : tie.After-layer-edges) → c .layer-edges .result ≤ maxLayerEdges
 edges-low c =
     let s = c .before .before .before .before .before in
     omega (arith, c .layer-edges .ensures, edges-le (s .args .w .shape .height) (s .args .w .shape .distance) (s .pre .0))
 
-escapes-low : (c : tie.After-detectors) → c .detectors .result ≤ 210
+escapes-low : (c : tie.After-detectors) → c .detectors .result ≤ maxDetectors
 escapes-low c =
     let s = c .before .before .before .before in
     omega (arith, c .detectors .ensures, detectors-le (s .args .w .shape .height) (s .args .w .shape .distance) (s .pre .0))
 
-edges-lent : (c : tie.After-layer-edges) → length (take (c .layer-edges .result) (replicate {A = ℕ} 631 0)) ≡ c .layer-edges .result
+edges-lent : (c : tie.After-layer-edges) → length (take (c .layer-edges .result) (replicate {A = ℕ} maxLayerEdges 0)) ≡ c .layer-edges .result
 edges-lent c = length-take-le _ _ (edges-low c)
 
-escapes-lent : (c : tie.After-detectors) → length (take (c .detectors .result) (replicate {A = ℕ} 210 0)) ≡ c .detectors .result
+escapes-lent : (c : tie.After-detectors) → length (take (c .detectors .result) (replicate {A = ℕ} maxDetectors 0)) ≡ c .detectors .result
 escapes-lent c = length-take-le _ _ (escapes-low c)
 
 -- and fill their parts

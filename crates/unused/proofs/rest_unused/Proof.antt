@@ -5,6 +5,7 @@ use native.Mathlib.Omega.{arith}
 use borrow.Author.Needs.{needs}
 use borrow.Author.Tests.{not-true, not-false}
 use lib.ListN.{drop, getD, length-map}
+use Rattle.shape.specs.Sizes.{maxNodes}
 use Rattle.window.specs.Lists.{all}
 use Rattle.window.specs.Formed.{unusedNode}
 use Rattle.window.specs.LawsFormed.{fresh-reset, fresh-root}
@@ -14,10 +15,10 @@ use Rattle.unused.proofs.rest_unused.Tie as tie
 use Rattle.unused.proofs.Behind.{fails, passes, ends}
 
 abbrev Inv-loop : tie.InvT-loop
-Inv-loop n w g₀ g = (g ≤ 3600) × (all unusedNode (drop g (w .nodes)) ≡ all unusedNode (drop n (w .nodes)))
+Inv-loop n w g₀ g = (g ≤ maxNodes) × (all unusedNode (drop g (w .nodes)) ≡ all unusedNode (drop n (w .nodes)))
 
 abbrev μ-loop : tie.MeasureT-loop
-μ-loop n w g₀ g = 3600 - g
+μ-loop n w g₀ g = maxNodes - g
 
 loop-holds : tie.Need-loop-holds Inv-loop μ-loop
 loop-holds c = (c .pre, refl)

@@ -17,7 +17,7 @@ add-over : tie.Need-add-over
 add-over c = omega (arith, stands-low _ _ _ _ (c .before .before .before .pre))
 
 add-over-2 : tie.Need-add-over-2
-add-over-2 c = omega (arith, c .before .before .before .before .pre .inside .column, c .before .before .before .before .pre .ranged .d15)
+add-over-2 c = omega (arith, c .before .before .before .before .pre .inside .column, c .before .before .before .before .pre .ranged .d-max)
 
 over-requires : tie.Need-over-requires
 over-requires c κs = (omega (arith, stands-low _ _ _ _ (c .before .before .before .before .before .pre)), omega arith)

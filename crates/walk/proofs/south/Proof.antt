@@ -11,7 +11,7 @@ inner-requires : tie.Need-inner-requires
 inner-requires c κs = search needs
 
 add-if1 : tie.Need-add-if1
-add-if1 c = omega (arith, c .before .before .pre .inside .row, c .before .before .pre .ranged .h15)
+add-if1 c = omega (arith, c .before .before .pre .inside .row, c .before .before .pre .ranged .h-max)
 
 no-edge-requires : tie.Need-no-edge-requires
 no-edge-requires c κs = search needs
