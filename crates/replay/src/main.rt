@@ -41,6 +41,7 @@ ghost use lib.ListN.{length};
 // The bytes of the library's large buffer, which holds the script.
 const SCRIPT_BYTES: usize = 65536;
 
+// The offset of its last byte.
 const LAST: usize = SCRIPT_BYTES - 1;
 
 // A number of the script, and the offset behind it.
@@ -231,7 +232,7 @@ fn say_buffer(buffer: &mut [u8]) {
     say(b" ");
 }
 
-// THE SCRIPT_BYTES
+// THE SCRIPT
 
 fn is_digit(x: u8) -> bool {
     (48 <= x) & (x <= 57)
