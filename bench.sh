@@ -1,5 +1,5 @@
 #!/bin/bash
-# Builds the proved archive, and prints its decoder's times beside those of a plain dense decoder in Rust.
+# Builds the proved archive, and prints its decoder's times beside those of three decoders in Rust that are not proved.
 set -u
 archive=exports
 

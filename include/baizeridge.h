@@ -25,8 +25,9 @@
 #include <stddef.h>
 #include <stdint.h>
 
-/* Measured: some 500,000 bytes to decode, less than 1,500 for any other call. */
-#define BAIZERIDGE_DECODE_STACK 1048576
+/* 384 KiB to decode, where the window's arrays stand in one frame, whatever the shape. Any other call takes less than
+ * 1,500 bytes, measured. */
+#define BAIZERIDGE_DECODE_STACK 393216
 #define BAIZERIDGE_STACK 32768
 
 #ifdef __cplusplus

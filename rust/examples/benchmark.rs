@@ -1,12 +1,11 @@
-//! The proved decoder's time beside that of two others, on fixed streams: `bench.sh` at the repository's root.
-//! Times are for whole streams, from bytes to bytes, with the buffers made before.
+//! The proved decoder's time beside that of three others, on fixed streams: `bench.sh` at the repository's root.
+//! Times are for whole streams, from bytes to bytes; the proved decoder's buffer is made before.
 
 use baizeridge_tests::decoding::{Decoded, DECODED};
-use baizeridge_tests::image::{DETECTORS, NODES, SLOTS};
 use baizeridge_tests::noise::{stream, Noise};
 use baizeridge_tests::random::Random;
 use baizeridge_tests::streams::Shape;
-use baizeridge_tests::{decoder, dense, proved};
+use baizeridge_tests::{decoder, dense, proved, sparse};
 use std::hint::black_box;
 use std::time::{Duration, Instant};
 
@@ -19,7 +18,8 @@ const CHANCES: [usize; 2] = [1_000, 10_000];
 
 fn main() {
     println!("phenomenological noise; times in microseconds a round, best of {REPETITIONS}");
-    println!(" shape   noise  rounds  steps a round     proved      dense     second  proved/dense");
+    println!("the price of the proof: proved/dense beside a plain decoder, proved/sparse beside the fastest here");
+    println!(" shape   noise  rounds  steps a round   proved    dense   sparse    second  proved/dense  proved/sparse");
     for (case, (size, rounds)) in STREAMS.into_iter().enumerate() {
         for chance in CHANCES {
             let shape = Shape::new(size, size).expect("a shape in range");
@@ -28,68 +28,39 @@ fn main() {
             let decoded = decoder::decode(&input);
             assert_eq!((decoded.status, decoded.rounds()), (DECODED, rounds));
             let times = race(&input, &decoded).map(|time| time.as_secs_f64() * 1e6 / rounds as f64);
-            let [proved, dense, second] = times;
+            let [proved, dense, sparse, second] = times;
             println!(
-                "{:>6}  {:>4.1} %  {rounds:>6}  {:>13.2}  {proved:>9.2}  {dense:>9.2}  {second:>9.2}  {:>12.1}",
+                "{:>6}  {:>4.1} %  {rounds:>6}  {:>13.2}  {proved:>7.3}  {dense:>7.3}  {sparse:>7.3}  {second:>8.3}  \
+                 {:>12.2}  {:>13.2}",
                 format!("{size}x{size}"),
                 chance as f64 / 1e4,
                 decoded.steps as f64 / rounds as f64,
-                proved / dense
+                proved / dense,
+                proved / sparse
             );
         }
     }
-    println!("moving a window of {} bytes: {:.2} microseconds", size_of::<Window>(), moving().as_secs_f64() * 1e6);
 }
 
-/// The best times of the proved, the dense and the second decoder, which take turns; all have to agree.
-fn race(input: &[u8], decoded: &Decoded) -> [Duration; 3] {
-    let mut best = [Duration::MAX; 3];
+/// The best times of the proved, the dense, the sparse and the second decoder, which take turns; all have to agree.
+fn race(input: &[u8], decoded: &Decoded) -> [Duration; 4] {
     let mut out = vec![0; decoded.result.len()];
-    let mut time = |place: usize, run: &mut dyn FnMut()| {
-        let start = Instant::now();
-        run();
-        best[place] = best[place].min(start.elapsed());
-    };
+    let mut best = [Duration::MAX; 4];
     for _ in 0..REPETITIONS {
-        let (mut answer, mut plain, mut second) = (None, None, None);
-        time(0, &mut || answer = Some(proved::decode(black_box(input), &mut out)));
-        time(1, &mut || plain = Some(dense::decode(black_box(input))));
-        time(2, &mut || second = Some(decoder::decode(black_box(input))));
-        assert_eq!((answer, &out), (Some((DECODED, None, out.len())), &decoded.result));
-        assert!(plain.as_ref() == Some(decoded) && second.as_ref() == Some(decoded));
+        let (time, answer) = timed(|| proved::decode(black_box(input), &mut out));
+        assert_eq!((answer, &out), ((DECODED, None, out.len()), &decoded.result));
+        best[0] = best[0].min(time);
+        for (best, decode) in best[1..].iter_mut().zip([dense::decode, sparse::decode, decoder::decode]) {
+            let (time, other) = timed(|| decode(black_box(input)));
+            assert_eq!(&other, decoded);
+            *best = time.min(*best);
+        }
     }
     best
 }
 
-/// As large as a window of the proved crates, which hand theirs on by value.
-#[derive(Clone, Copy)]
-#[repr(C)]
-struct Window {
-    next: u32,
-    shape_and_stage: [u8; 4],
-    nodes: [[u16; 4]; NODES],
-    growth: [u8; SLOTS],
-    correction: [u8; SLOTS],
-    measured: [u8; DETECTORS],
-}
-
-fn moving() -> Duration {
-    const MOVES: u32 = 10_000;
-    let from = Box::new(Window {
-        next: 0,
-        shape_and_stage: [0; 4],
-        nodes: [[0; 4]; NODES],
-        growth: [0; SLOTS],
-        correction: [0; SLOTS],
-        measured: [0; DETECTORS],
-    });
-    let mut to = from.clone();
-    let run = |_| {
-        let start = Instant::now();
-        for _ in 0..MOVES {
-            **black_box(&mut to) = **black_box(&from);
-        }
-        start.elapsed() / MOVES
-    };
-    (0..REPETITIONS).map(run).min().expect("there are repetitions")
+fn timed<R>(run: impl FnOnce() -> R) -> (Duration, R) {
+    let start = Instant::now();
+    let result = run();
+    (start.elapsed(), result)
 }

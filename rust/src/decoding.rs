@@ -55,7 +55,7 @@ impl Decoded {
         (11, &self.result[..written])
     }
 
-    fn add(&mut self, record: &[u8]) {
+    pub fn add(&mut self, record: &[u8]) {
         self.result.extend(record);
         self.ends.push(self.result.len());
     }
@@ -70,8 +70,13 @@ pub fn number_of(stop: Stop) -> u8 {
 }
 
 pub fn decode<D: Decoder>(input: &[u8]) -> Decoded {
+    decoded_by(|decoded| rounds::<D>(input, decoded))
+}
+
+/// What was decoded until the rounds came to their end or were stopped.
+pub fn decoded_by(rounds: impl FnOnce(&mut Decoded) -> Result<(), Stop>) -> Decoded {
     let mut decoded = Decoded { status: DECODED, place: None, result: vec![], ends: vec![], steps: 0, committed: 0 };
-    if let Err(stop) = rounds::<D>(input, &mut decoded) {
+    if let Err(stop) = rounds(&mut decoded) {
         decoded.status = number_of(stop);
         decoded.place = place_of(stop);
     }

@@ -39,9 +39,9 @@ pub fn entry(sheet: &Sheet, depth: usize, node: usize) -> usize {
     depth * sheet.nodes() + node
 }
 
-/// The entries of an edge, which stand with its west, north or lower end.
+/// The slot of an edge: by kind, at the entry of its west, north or lower end.
 pub fn slot(sheet: &Sheet, depth: usize, edge: usize) -> usize {
-    3 * entry(sheet, depth, sheet.spans[edge].near) + sheet.spans[edge].kind
+    sheet.spans[edge].kind * entry(sheet, sheet.sheets(), 0) + entry(sheet, depth, sheet.spans[edge].near)
 }
 
 impl Image {

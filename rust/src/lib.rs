@@ -2,8 +2,8 @@
 //! `compare` holds every answer and every byte of the one against the other. `decoder` is a second decoder, which
 //! `decoding` takes through a whole stream, and `account` holds it to the law; `replay` plays the stored script of
 //! `crates/replay` on it. `script` writes that script, and random lists of calls; `image` has the windows that they
-//! edit. `dense` is a plain decoder for the benchmark. `cases`, `random` and `noise` make inputs, and `tally` and
-//! `covered` count what came of them; `repository` finds files.
+//! edit. `dense` and `sparse` are decoders for the benchmark, a plain and a fast one. `cases`, `random` and `noise`
+//! make inputs, and `tally` and `covered` count what came of them; `repository` finds files.
 
 pub mod account;
 pub mod cases;
@@ -19,5 +19,6 @@ pub mod random;
 pub mod replay;
 pub mod repository;
 pub mod script;
+pub mod sparse;
 pub mod streams;
 pub mod tally;

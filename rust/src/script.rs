@@ -277,8 +277,8 @@ impl Script {
         self.add("open 15 15");
         self.add("next 30");
         // Growth or correction of each, for the script's length; 3 by 3 has both.
-        [1, 45].into_iter().for_each(|slot| self.try_halves(slot, 1));
-        [2, 10_797].into_iter().for_each(|slot| self.try_flip(slot));
+        [3_600, 15].into_iter().for_each(|slot| self.try_halves(slot, 1));
+        [7_200, 3_599].into_iter().for_each(|slot| self.try_flip(slot));
         self.try_node(3_599, |node| node.defect = true);
         self.try_node(3_598, |node| node.pointer = 5);
         self.try_node(3_598, |node| node.mark = Some(3_840));
@@ -290,7 +290,7 @@ impl Script {
         self.receive("raw", "1");
     }
 
-    // 3 by 3: a sheet has 12 nodes, 3 sheets, 48 numbers; the slots of 36 nodes are 108.
+    // 3 by 3: a sheet has 12 nodes, 3 sheets, 48 numbers; the slots of 36 nodes are 108, 36 of each kind.
     fn each_fault(&mut self) {
         let (next, stage) = (self.image().next, self.image().stage);
         // What one round call is tried with in one stage, the other is tried with in another.
@@ -326,7 +326,7 @@ impl Script {
             self.try_node(i, |node| node.defect = true);
         }
         self.add("# growth above 2");
-        for (slot, halves) in [(0, 3), (3, 3), (42, 255), (104, 3)] {
+        for (slot, halves) in [(0, 3), (1, 3), (14, 255), (106, 3)] {
             self.try_halves(slot, halves);
         }
         self.add("# unused nodes: each field");
@@ -339,7 +339,7 @@ impl Script {
             self.try_node(i, |node| node.mark = None);
         }
         self.add("# slots without an edge: behind the window, east of the sheet, south of a boundary and of the sheet, above the top and a boundary");
-        for slot in [108, 10_799, 9, 1, 28, 5, 38] {
+        for slot in [108, 10_799, 3, 36, 45, 73, 84] {
             self.try_halves(slot, 1);
             self.try_flip(slot);
         }

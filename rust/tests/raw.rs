@@ -92,7 +92,9 @@ fn refused(mut image: Image, shape: Shape, faults: &Faults, longer: bool) {
         (true, true) => right + 1,
         (true, false) => right - 1,
     };
-    image.growth[1] = faults.has(21).into();
+    // South of the first node, a boundary: no edge is there. Slots stand by kind.
+    let south = shape.height * (shape.distance + 1) * shape.sheets();
+    image.growth[south] = faults.has(21).into();
     if faults.has(22) {
         image.stage = if longer { Stage::ToGrow } else { Stage::Merging };
     }

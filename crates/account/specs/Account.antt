@@ -11,7 +11,7 @@ use Rattle.refusal.specs.Answer.{done, valueOr}
 use Rattle.refusal.specs.Bytes.{Bytes}
 use Rattle.shape.specs.Sizes.{sheetsOf}
 use Rattle.steps.specs.Steps.{Table}
-use Rattle.layers.specs.Layer.{edgeOf}
+use Rattle.layers.specs.Layers.{edgeOf}
 use Rattle.shape.specs.declared.Shape.{Shape}
 use Rattle.record.specs.Records.{header, headerAt, Result}
 use Rattle.trip.specs.Streams.{Stream, inputOf, inputBytes, resultsOf, resultBytes}
@@ -57,7 +57,7 @@ module _ (output : Stream Result) where
   abbrev pub endingIn : Table → Spot → ℕ
   endingIn T a =
       let sh = output .shape in
-      sum (length (output .records)) (λ n. sum (edgesIn sh) (λ i. bit (committedIn n i && ends T n (edgeOf (sh .height) (sh .distance) i) a)))
+      sum (length (output .records)) (λ n. sum (edgesIn sh) (λ i. bit (committedIn n i && ends T n (edgeOf T (sh .height) (sh .distance) i) a)))
 
   -- the output has a detector among the escaped
   abbrev pub escapedIn : Spot → Bool
@@ -70,7 +70,7 @@ callsOf sh (bytes ∷ rounds) = round bytes (replicate {A = ℕ} (edgesIn sh) 0)
 
 -- the window after them, and their receipts
 abbrev pub playedOf : Table → Stream (List ℕ) → Played
-playedOf T input = play T (start (freshWindow (input .shape))) (callsOf (input .shape) (input .records))
+playedOf T input = play T (start (freshWindow T (input .shape))) (callsOf (input .shape) (input .records))
 
 -- the receipt of a round and its result: the bytes of the one, the edges and the escapes of the other
 abbrev pub receiptWith : List ℕ → Result → Receipt
@@ -97,7 +97,7 @@ module _ (T : Table) where
 
 -- of the law's calls for an input
 abbrev pub countsFor : Table → Stream (List ℕ) → List ℕ
-countsFor T input = countsOf T (freshWindow (input .shape)) (callsOf (input .shape) (input .records))
+countsFor T input = countsOf T (freshWindow T (input .shape)) (callsOf (input .shape) (input .records))
 
 abbrev pub stepsIn : Result → ℕ
 stepsIn r = r .steps
@@ -144,7 +144,7 @@ pub record Account (T : Table) (s : List ℕ) (d : Decoded) : Type 0 where
   pub receipts : playedOf T input .receipts ≡ receiptsOf (input .records) (output .records)
   pub steps : countsFor T input ≡ map stepsIn (output .records)
   pub rests : isRest (playedOf T input .window .stage) ≡ true
-  pub law : Law T (freshWindow (input .shape)) (playedOf T input)
+  pub law : Law T (freshWindow T (input .shape)) (playedOf T input)
 
 -- A decoding that is resumed n times where it stopped, each time with an empty buffer of the same size, as the program does it
 unfoldable pub resumedFrom : Table → List ℕ → ℕ → ℕ → Window → ℕ → ℕ → Rounds
@@ -166,4 +166,4 @@ pub record Accounts (T : Table) : Type 0 where
   pub finishes : (s : List ℕ) (size : ℕ) → decoded T s size .line ≡ finished → 0 < length (decoded T s size .output)
   -- Of any bytes that begin with a header, decoded in pieces.
   pub pieces : (s : List ℕ) (size n : ℕ) → Bytes s → (sh : Shape) (next : ℕ) → headerAt s 0 ≡ done sh next
-      → WindowAccount T s sh (resumedFrom T s size n (freshWindow sh) next (length (header sh)))
+      → WindowAccount T s sh (resumedFrom T s size n (freshWindow T sh) next (length (header sh)))

@@ -7,10 +7,11 @@ use mathlib.Core.List.{List, [], _∷_}
 use mathlib.Core.Logic.{⊎-elim}
 use lib.Dec.{eqb}
 use lib.ListN.{length, getD, List·getD-eq-default}
-use Rattle.shape.specs.Sizes.{inRange, sheetsOf, layerEdgesOf}
-use Rattle.steps.specs.Steps.{Table, step}
+use Rattle.shape.specs.Sizes.{inRange, sheetsOf}
+use Rattle.steps.specs.Steps.{Table, step, namer}
+use Rattle.steps.specs.Suited.{Suited}
 use Rattle.shape.specs.Ranges.{Ranged, halves, ranged}
-use Rattle.layers.specs.Layer.{edgeOf}
+use Rattle.layers.specs.Layers.{edgeOf, layerEdges}
 use Rattle.layers.specs.declared.Edge.{Edge}
 use Rattle.shape.specs.declared.Shape.{Shape}
 use Rattle.record.specs.Records.{Result}
@@ -18,12 +19,11 @@ use Rattle.trip.specs.Streams.{Stream}
 use Rattle.trip.specs.Fits.{InRange, edgesIn}
 use Rattle.window.specs.Lists.{bit}
 use Rattle.window.specs.LawsLists.{and-not}
-use Rattle.window.specs.Window.{namer}
-use Rattle.closure.specs.Suited.{Suited}
 use Rattle.law.specs.Law.{Receipt, Played, NothingLeft, AbsentEmpty, noReceipt, Spot, ends, sum, height, distance, sheets, last, receipt, received, committed, escaped, inWindow, standing, Detector, pending, ending, Conserved}
-use Rattle.law.specs.Layered.{Layered}
+use Rattle.law.specs.Layered.{layered}
 use Rattle.law.specs.Bits.{refuted}
 use Rattle.law.specs.Spots.{ends-at, window-in, not-in-window}
+use Rattle.decoding.specs.Lengths.{LongAs01}
 use Rattle.account.specs.Account.{receiptWith, receiptsOf, SuppliedDetector, entryIn, receivedIn, noResult, committedIn, escapedIn, endingIn}
 use Rattle.account.specs.Sums.{sum-same, sum-none, sum-less}
 
@@ -48,7 +48,7 @@ made-long (bytes ∷ rounds) (r ∷ results) e = ap suc (made-long rounds result
 no-bit : (b : Bool) → b ≡ false → bit b ≡ 0
 no-bit b e = ap bit e
 
-module _ (T : Table) (p : Played) (sh : Shape) (rounds : List (List ℕ)) (results : List Result) (shape : p .window .shape ≡ sh)
+module _ (T : Table) (K : LongAs01 T) (p : Played) (sh : Shape) (rounds : List (List ℕ)) (results : List Result) (shape : p .window .shape ≡ sh)
     (receipts : p .receipts ≡ receiptsOf rounds results) (each : length results ≡ length rounds) where
   abbrev input : Stream (List ℕ)
   input = record { shape = sh; records = rounds }
@@ -81,16 +81,17 @@ module _ (T : Table) (p : Played) (sh : Shape) (rounds : List (List ℕ)) (resul
 
   module _ (a : Spot) where
     abbrev inLayer : Shape → ℕ → ℕ
-    inLayer x n = sum (edgesIn x) (λ i. bit (committedIn output n i && ends T n (edgeOf (x .height) (x .distance) i) a))
+    inLayer x n = sum (edgesIn x) (λ i. bit (committedIn output n i && ends T n (edgeOf T (x .height) (x .distance) i) a))
 
     ending-is : ending T p (committed p) a ≡ endingIn output T a
     ending-is =
         sum-same _ (inLayer (p .window .shape)) (last p + 1) (λ n l.
-        sum-same _ (λ i. bit (committedIn output n i && ends T n (edgeOf (height p) (distance p) i) a)) (layerEdgesOf (height p) (distance p)) (λ i m.
-        ap (λ (b : Bool). bit (b && ends T n (edgeOf (height p) (distance p) i) a)) (committed-is n i)))
+        sum-same _ (λ i. bit (committedIn output n i && ends T n (edgeOf T (height p) (distance p) i) a)) (layerEdges T (height p) (distance p)) (λ i m.
+        ap (λ (b : Bool). bit (b && ends T n (edgeOf T (height p) (distance p) i) a)) (committed-is n i))
+        ∙ ap (λ (E : ℕ). sum E (λ i. bit (committedIn output n i && ends T n (edgeOf T (height p) (distance p) i) a))) (K (height p) (distance p)))
         ∙ ap (λ (x : Shape). sum (last p + 1) (inLayer x)) shape
         ∙ sum-less (inLayer sh) (length results) (last p + 1) (let k = long in omega arith) (λ n l.
-        sum-none _ (edgesIn sh) (λ i m. no-bit _ (and-not _ (ends T n (edgeOf (sh .height) (sh .distance) i) a) (none-committed n i l))))
+        sum-none _ (edgesIn sh) (λ i m. no-bit _ (and-not _ (ends T n (edgeOf T (sh .height) (sh .distance) i) a) (none-committed n i l))))
 
   pub in-streams : Conserved T p → (a : Spot) → a .round < sheetsOf (sh .distance) + length rounds → SuppliedDetector sh a
       → receivedIn input a % 2 ≡ (endingIn output T a + ending T p (pending T p) a + bit (standing p a) + bit (escapedIn output a)) % 2
@@ -111,19 +112,19 @@ module _ (T : Table) (p : Played) (sh : Shape) (rounds : List (List ℕ)) (resul
 
   -- WHAT HAS LEFT THE WINDOW: nothing stands there, and no edge that is pending ends there
 
-  module _ (S : Suited T) (L : Layered T) (range : InRange sh) (a : Spot) (l : a .round < length rounds) where
+  module _ (S : Suited T) (range : InRange sh) (a : Spot) (l : a .round < length rounds) where
     none-standing : standing p a ≡ false
     none-standing = let k = long in and-not _ _ (not-in-window p (a .round) (omega arith))
 
     ranged-p : Ranged (height p) (distance p)
     ranged-p = ranged (height p) (distance p) (ap (λ (x : Shape). inRange (x .height) (x .distance)) shape ∙ range)
 
-    none-pending : (n i : ℕ) → i < layerEdgesOf (height p) (distance p) → pending T p n i && ends T n (edgeOf (height p) (distance p) i) a ≡ true → ⊥
+    none-pending : (n i : ℕ) → i < layerEdges T (height p) (distance p) → pending T p n i && ends T n (edgeOf T (height p) (distance p) i) a ≡ true → ⊥
     none-pending n i m e =
         let x = halves (pending T p n i) _ e in
         let w = window-in p n (halves (inWindow p n) _ (halves _ _ (x .0) .0) .0) in
-        let edge : Edge = edgeOf (height p) (distance p) i in
-        let up = S .upwards (edge .kind) (L .kind (height p) (distance p) i ranged-p m) in
+        let edge : Edge = edgeOf T (height p) (distance p) i in
+        let up = S .upwards (edge .kind) (layered T S .kind (height p) (distance p) i ranged-p m) in
         let k = long in
         ⊎-elim (λ q. let r : n ≡ a .round = ap (λ (b : Spot). b .round) q in omega arith)
         (λ q. let r : n + step T (namer T (edge .kind)) .sheet .less - step T (namer T (edge .kind)) .sheet .more ≡ a .round = ap (λ (b : Spot). b .round) q in omega arith)
@@ -131,7 +132,7 @@ module _ (T : Table) (p : Played) (sh : Shape) (rounds : List (List ℕ)) (resul
 
     no-ending : ending T p (pending T p) a ≡ 0
     no-ending =
-        sum-none _ (last p + 1) (λ n j. sum-none _ (layerEdgesOf (height p) (distance p)) (λ i m. no-bit _ (refuted _ (none-pending n i m))))
+        sum-none _ (last p + 1) (λ n j. sum-none _ (layerEdges T (height p) (distance p)) (λ i m. no-bit _ (refuted _ (none-pending n i m))))
 
     pub alone : Conserved T p → SuppliedDetector sh a → receivedIn input a % 2 ≡ (endingIn output T a + bit (escapedIn output a)) % 2
     alone c i =

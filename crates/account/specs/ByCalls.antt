@@ -30,7 +30,7 @@ use Rattle.window.specs.declared.Window.{Window}
 use Rattle.closure.specs.Done.{accepted, staged}
 use Rattle.closure.specs.Run.{run-keeps}
 use Rattle.decoding.specs.Decoding.{budget, Turn, wrote, turnAt, recordAt}
-use Rattle.decoding.specs.Lengths.{count-most}
+use Rattle.decoding.specs.Lengths.{LongAs01, count-most}
 use Rattle.decoding.specs.LawsTurn.{detectors, edges, onRan, onRound, onBytes, turn-steps, committed-long, committed-bits, escaped-long, escaped-bits}
 use Rattle.decoding.specs.LawsDecoding.{record-written}
 
@@ -67,7 +67,7 @@ pub record ByCalls (T : Table) (s : List ℕ) (w : Window) (at : ℕ) (bytes : L
   pub round : Round
   pub run : Ran
   pub reads : roundAt s (detectors w) at ≡ done sheet next
-  pub receives : (z : ℕ) × (roundCall T w sheet (replicate {A = ℕ} (edges w) 0) (replicate {A = ℕ} (detectors w) 0) ≡ done round z)
+  pub receives : (z : ℕ) × (roundCall T w sheet (replicate {A = ℕ} (edges T w) 0) (replicate {A = ℕ} (detectors w) 0) ≡ done round z)
   pub runs : (z : ℕ) × (runCall T (round .window) budget ≡ done run z)
   pub makes : bytes ≡ result (record { edges = round .edges; escapes = round .escapes; steps = run .count })
   pub window : run .window ≡ v
@@ -76,7 +76,7 @@ pub record ByCalls (T : Table) (s : List ℕ) (w : Window) (at : ℕ) (bytes : L
 module _ (T : Table) (s : List ℕ) (w : Window) (at : ℕ) (bytes : List ℕ) (v : Window) (next : ℕ) (t : Turn)
     (made : bytes ≡ result (t .result)) (window : t .window ≡ v) (rest : t .rest ≡ true) where
   by-run : (sheet : List ℕ) (mid : ℕ) → roundAt s (detectors w) at ≡ done sheet mid
-      → (r : Round) (z : ℕ) → roundCall T w sheet (replicate {A = ℕ} (edges w) 0) (replicate {A = ℕ} (detectors w) 0) ≡ done r z
+      → (r : Round) (z : ℕ) → roundCall T w sheet (replicate {A = ℕ} (edges T w) 0) (replicate {A = ℕ} (detectors w) 0) ≡ done r z
       → Went (runCall T (r .window) budget) (onRan T w r mid) t next
       → ByCalls T s w at bytes v next
   by-run sheet mid e r z f d =
@@ -98,7 +98,7 @@ module _ (T : Table) (s : List ℕ) (w : Window) (at : ℕ) (bytes : List ℕ) (
   by-turn : turnAt T s w at ≡ done t next → ByCalls T s w at bytes v next
   by-turn e =
       let a = went (roundAt s (detectors w) at) (onBytes T w) t next (sym (turn-steps T w s at) ∙ e) in
-      let b = went (roundCall T w (a .value) (replicate {A = ℕ} (edges w) 0) (replicate {A = ℕ} (detectors w) 0)) (onRound T w (a .next)) t next (a .after) in
+      let b = went (roundCall T w (a .value) (replicate {A = ℕ} (edges T w) 0) (replicate {A = ℕ} (detectors w) 0)) (onRound T w (a .next)) t next (a .after) in
       by-run (a .value) (a .next) (a .before) (b .value) (b .next) (b .before) (went (runCall T (b .value .window) budget) (onRan T w (b .value) (a .next)) t next (b .after))
 
 pub by-calls : (T : Table) (s : List ℕ) (size : ℕ) (w : Window) (at to : ℕ) (bytes : List ℕ) (v : Window) (next : ℕ) → recordAt T s size w at to ≡ wrote bytes v next
@@ -115,7 +115,7 @@ module _ (T : Table) (s : List ℕ) (w : Window) (at : ℕ) (bytes : List ℕ) (
 
   gave : receiving T w (p .sheet) ≡ p .round
   unfolding roundCall
-  gave = accepted T w (p .sheet) (replicate {A = ℕ} (edges w) 0) (replicate {A = ℕ} (detectors w) 0) (receiving T w (p .sheet)) (p .round) (p .receives .0) (p .receives .1) .value
+  gave = accepted T w (p .sheet) (replicate {A = ℕ} (edges T w) 0) (replicate {A = ℕ} (detectors w) 0) (receiving T w (p .sheet)) (p .round) (p .receives .0) (p .receives .1) .value
 
   module _ (sh : Shape) (same : w .shape ≡ sh) where
     round-shape : p .round .window .shape ≡ sh
@@ -143,14 +143,14 @@ module _ (T : Table) (s : List ℕ) (w : Window) (at : ℕ) (bytes : List ℕ) (
         ∙ ap (λ (r : Ran). isRest (r .window .stage)) (sym (staged-run .1))
         ∙ ran-rests T (p .round .window) (ap (λ (r : Ran). r .rest) (staged-run .1) ∙ p .rests)
 
-    pub by-fits : RecordFits sh resultBy
-    by-fits =
+    pub by-fits : LongAs01 T → RecordFits sh resultBy
+    by-fits K =
         let a : p .round .edges ≡ committedEdges T w = ap (λ (r : Round). r .edges) (sym gave) in
         let b : p .round .escapes ≡ escapedDefects w = ap (λ (r : Round). r .escapes) (sym gave) in
         let c : p .run .count ≡ ran T budget (p .round .window) .count = ap (λ (r : Ran). r .count) (sym (staged-run .1)) in
         subst (λ (x : Shape). RecordFits x resultBy) same
         (record {
-          edges = record { size = rw a (committed-long T w); bits = rw a (committed-bits T w) };
+          edges = record { size = rw a (committed-long T w ∙ K (w .shape .height) (w .shape .distance)); bits = rw a (committed-bits T w) };
           escapes = record { size = rw b (escaped-long w); bits = rw b (escaped-bits w) };
           steps = rw c (ran-count T (p .round .window));
         })

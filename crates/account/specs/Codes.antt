@@ -146,7 +146,7 @@ module _ (T : Table) (s : List ℕ) (size : ℕ) where
       go (number-at h) = h
       go (value {v = sh} {next = next}) =
           by-test (λ (d : Decoded). LineCoded (d .line)) (leb (length (header sh)) size) _ (nothingWritten (plain 11))
-          (from-coded (length s + 1) (freshWindow sh) next (length (header sh))) refl
+          (from-coded (length s + 1) (freshWindow T sh) next (length (header sh))) refl
 
   -- what a caller sees of it
   pub status-finished : (place : ℕ) → concluded (decoded T s size .line) place .status ≡ 0 → decoded T s size .line ≡ finished

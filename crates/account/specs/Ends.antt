@@ -55,7 +55,7 @@ module _ (T : Table) (s : List ℕ) (w : Window) (at : ℕ) where
       let a : NoEnd (roundAt s (detectors w) at) = subst NoEnd (sym (before-end s at (listAt s (detectors w) at) l)) (list-no-end s (detectors w) at) in
       subst NoEnd (sym (turn-steps T w s at))
       (no-end-then (roundAt s (detectors w) at) (onBytes T w) a (λ bytes next.
-      no-end-then (roundCall T w bytes (replicate {A = ℕ} (edges w) 0) (replicate {A = ℕ} (detectors w) 0)) (onRound T w next) (round-no-end bytes _ _) (λ r z.
+      no-end-then (roundCall T w bytes (replicate {A = ℕ} (edges T w) 0) (replicate {A = ℕ} (detectors w) 0)) (onRound T w next) (round-no-end bytes _ _) (λ r z.
       no-end-then (runCall T (r .window) budget) (onRan T w r next)
       (tests-no-end (stateTests T (r .window) (not (isRest (r .window .stage)))) (done (ran T budget (r .window)) 0) tt)
       (λ v z. tt))))

@@ -20,6 +20,7 @@ use Rattle.window.specs.declared.Ran.{Ran}
 use Rattle.window.specs.declared.Window.{Window}
 use Rattle.law.specs.Law.{Call, round, run, Receipt, Played, receiptOf, returned, receipted, play}
 use Rattle.decoding.specs.Decoding.{Line, finished, budget, Recorded, wrote, stopped, recordAt, Rounds, stop, after, roundsFrom, rounds}
+use Rattle.decoding.specs.Lengths.{LongAs01}
 use Rattle.account.specs.Account.{callsOf, receiptsOf, countOf, countsOf, stepsIn}
 use Rattle.account.specs.ByCalls.{ByCalls, by-calls, resultBy, by-shape, by-rest, by-fits, by-sheet}
 use Rattle.account.specs.Ends.{finished-end}
@@ -50,7 +51,7 @@ pub record Followed (T : Table) (s : List ℕ) (sh : Shape) (w : Window) (at : �
 
 -- ONE TURN of the law's calls
 
-module _ (T : Table) (s : List ℕ) (w : Window) (at : ℕ) (bytes : List ℕ) (v : Window) (next : ℕ) (p : ByCalls T s w at bytes v next) (sh : Shape) (same : w .shape ≡ sh) where
+module _ (T : Table) (K : LongAs01 T) (s : List ℕ) (w : Window) (at : ℕ) (bytes : List ℕ) (v : Window) (next : ℕ) (p : ByCalls T s w at bytes v next) (sh : Shape) (same : w .shape ≡ sh) where
   abbrev receives : Call
   receives = round (p .sheet) (replicate {A = ℕ} (edgesIn sh) 0) (replicate {A = ℕ} (detectorsIn sh) 0)
 
@@ -62,7 +63,9 @@ module _ (T : Table) (s : List ℕ) (w : Window) (at : ℕ) (bytes : List ℕ) (
 
   round-done : roundCall T w (p .sheet) (replicate {A = ℕ} (edgesIn sh) 0) (replicate {A = ℕ} (detectorsIn sh) 0) ≡ done (p .round) (p .receives .0)
   round-done =
-      ap (λ (x : Shape). roundCall T w (p .sheet) (replicate {A = ℕ} (edgesIn x) 0) (replicate {A = ℕ} (detectorsIn x) 0)) (sym same) ∙ p .receives .1
+      ap (λ (x : Shape). roundCall T w (p .sheet) (replicate {A = ℕ} (edgesIn x) 0) (replicate {A = ℕ} (detectorsIn x) 0)) (sym same)
+      ∙ ap (λ (n : ℕ). roundCall T w (p .sheet) (replicate {A = ℕ} n 0) (replicate {A = ℕ} (detectorsIn (w .shape)) 0)) (sym (K (w .shape .height) (w .shape .distance)))
+      ∙ p .receives .1
 
   window-round : returned T w receives ≡ p .round .window
   window-round = ap (λ (a : Answer Round). valueOr a windowOf w) round-done
@@ -94,7 +97,7 @@ module _ (T : Table) (s : List ℕ) (w : Window) (at : ℕ) (bytes : List ℕ) (
 
 -- ROUND AFTER ROUND
 
-module _ (T : Table) (s : List ℕ) (b : Bytes s) (size : ℕ) (sh : Shape) where
+module _ (T : Table) (K : LongAs01 T) (s : List ℕ) (b : Bytes s) (size : ℕ) (sh : Shape) where
   followed-stop : (l : Line) (w : Window) (at : ℕ) → w .shape ≡ sh → at ≤ length s → (l ≡ finished → at ≡ length s) → Followed T s sh w at (stop l w at)
   unfolding allBytes callsOf receiptsOf play countsOf
   followed-stop l w at same i e =
@@ -124,15 +127,15 @@ module _ (T : Table) (s : List ℕ) (b : Bytes s) (size : ℕ) (sh : Shape) wher
         rounds = p .sheet ∷ f .rounds;
         results = o ∷ f .results;
         rounds-fit = (record { size = x .size ∙ ap detectorsIn same; bits = x .bits }, f .rounds-fit);
-        results-fit = (by-fits T s w at bytes v next p sh same, f .results-fit);
+        results-fit = (by-fits T s w at bytes v next p sh same K, f .results-fit);
         each = ap suc (f .each);
         reads = x .bytes ∙ ap (λ (l : List ℕ). listed (p .sheet) ++ l) (f .reads) ∙ sym (append-assoc (listed (p .sheet)) (allBytes listed (f .rounds)) (drop (r .next) s));
         writes = ap₂ (λ (k l : List ℕ). k ++ l) (p .makes) (f .writes);
         plays = λ before.
-            turn-plays T s w at bytes v next p sh same before (callsOf sh (f .rounds))
+            turn-plays T K s w at bytes v next p sh same before (callsOf sh (f .rounds))
             ∙ f .plays (before ++ (receiptOf (p .sheet) (p .round) ∷ []))
             ∙ ap (withoutRaw (r .window)) (append-snoc before (receiptOf (p .sheet) (p .round)) (receiptsOf (f .rounds) (f .results)));
-        steps = turn-counts T s w at bytes v next p sh same (callsOf sh (f .rounds)) ∙ ap (λ (l : List ℕ). p .run .count ∷ l) (f .steps);
+        steps = turn-counts T K s w at bytes v next p sh same (callsOf sh (f .rounds)) ∙ ap (λ (l : List ℕ). p .run .count ∷ l) (f .steps);
         rests = λ h. f .rests (by-rest T s w at bytes v next p sh same);
         shape = f .shape;
         inside = f .inside;

@@ -15,7 +15,7 @@ use Rattle.window.specs.declared.Window.{Window}
 use Rattle.calls.specs.Answers.{RoundReturned, roundLeft, roundLeaves, rawLeaves, mergingLeaves, Ended, runLeaves}
 use Rattle.law.specs.Law.{Call, round, raw, grow, merging, run, Receipt, Played, receiptOf, returned, receipted, lastRawAfter, play, start, Law, Demand3}
 use Rattle.law.specs.Play.{play-append}
-use Rattle.law.specs.Theorem.{demand3}
+use Rattle.law.specs.Theorem.{demand3-0}
 
 -- THE RECEIPT that a round call's promise gives, plain or raw: the defects received, and both buffers as the promise says that they are left;
 -- none where it is refused
@@ -38,8 +38,8 @@ pub record Linked (T : Table) : Type 0 where
   pub mergings : (w : Window) → mergingLeaves T w .window ≡ returned T w merging
   pub runs : (w : Window) (budget : ℕ) → runLeaves T w budget .window ≡ returned T w (run budget)
   -- a fresh window that is done is one that the law starts from
-  pub fresh : (height distance n : ℕ) → leaves (freshCall height distance) itself noWindow .answer ≡ done tt n
-      → freshCall height distance ≡ done (leaves (freshCall height distance) itself noWindow .window) n
+  pub fresh : (height distance n : ℕ) → leaves (freshCall T height distance) itself noWindow .answer ≡ done tt n
+      → freshCall T height distance ≡ done (leaves (freshCall T height distance) itself noWindow .window) n
 
 -- LISTS OF CALLS, by their promises alone: what is left, the receipts and the last raw bytes, after calls that each get the window as the last one returned it
 pub data Promised (T : Table) (fresh : Window) : Played → Type 0 where
@@ -66,7 +66,7 @@ pub data Promised (T : Table) (fresh : Window) : Played → Type 0 where
 
 -- the law holds after them, if the promise of the fresh window says that it is done
 abbrev pub Reaches : Table → Type 0
-Reaches T = (height distance n : ℕ) (x : Answered (Unit {0})) → x ≡ leaves (freshCall height distance) itself noWindow → x .answer ≡ done tt n
+Reaches T = (height distance n : ℕ) (x : Answered (Unit {0})) → x ≡ leaves (freshCall T height distance) itself noWindow → x .answer ≡ done tt n
     → (p : Played) → Promised T (x .window) p → Law T (x .window) p
 
 -- THE PROOF
@@ -95,7 +95,7 @@ linked T =
       grows = λ w. refl;
       mergings = λ w. refl;
       runs = λ w budget. refl;
-      fresh = λ height distance n e. fresh-is (freshCall height distance) n e;
+      fresh = λ height distance n e. fresh-is (freshCall T height distance) n e;
     }
 
 module _ (T : Table) (fresh : Window) where
@@ -136,10 +136,10 @@ module _ (T : Table) (fresh : Window) where
 
 reaches : (T : Table) → Demand3 T → Reaches T
 reaches T law height distance n x e d p k =
-    let f : freshCall height distance ≡ done (x .window) n =
+    let f : freshCall T height distance ≡ done (x .window) n =
     linked T .fresh height distance n (ap (λ (y : Answered (Unit {0})). y .answer) (sym e) ∙ d) ∙ ap (λ (y : Answered (Unit {0})). done (y .window) n) (sym e) in
     let l = listed T (x .window) p k in
     subst (Law T (x .window)) (l .1) (law height distance (x .window) n f (l .0))
 
 pub reached : Reaches base
-reached = reaches base demand3
+reached = reaches base demand3-0

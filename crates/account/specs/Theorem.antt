@@ -21,11 +21,12 @@ use Rattle.trip.specs.Header.{header-writes}
 use Rattle.trip.specs.RoundTrips.{round-trips}
 use Rattle.window.specs.Window.{isRest}
 use Rattle.window.specs.Fresh.{freshWindow}
-use Rattle.closure.specs.Suited.{Suited, suited-base}
+use Rattle.steps.specs.Suited.{Suited}
+use Rattle.steps.specs.Models.{suited-base}
 use Rattle.law.specs.Law.{Played, Law}
-use Rattle.law.specs.Layered.{Layered, layered-base}
 use Rattle.law.specs.Theorem as theorem
 use Rattle.decoding.specs.Decoding.{finished, Rounds, rounds, Decoded, nothingWritten, behind, decoded}
+use Rattle.decoding.specs.Lengths.{LongAs01, long-base}
 use Rattle.decoding.specs.LawsDecoding.{onHeader, by-header, decoded-on}
 use Rattle.account.specs.Account.{callsOf, receiptsOf, playedOf, resumedFrom, Account, WindowAccount, Accounts}
 use Rattle.account.specs.Follow.{Followed, followed, withoutRaw}
@@ -35,12 +36,12 @@ use Rattle.account.specs.Balance.{in-streams, none-absent, alone}
 
 -- THE FRESH WINDOW
 
-module _ (sh : Shape) where
-  fresh-shape : freshWindow sh .shape ≡ sh
+module _ (T : Table) (sh : Shape) where
+  fresh-shape : freshWindow T sh .shape ≡ sh
   unfolding freshWindow
   fresh-shape = refl
 
-  fresh-rest : isRest (freshWindow sh .stage) ≡ true
+  fresh-rest : isRest (freshWindow T sh .stage) ≡ true
   unfolding freshWindow
   fresh-rest = refl
 
@@ -57,7 +58,7 @@ module _ (T : Table) (s : List ℕ) (size : ℕ) where
       go (done sh next) l = by-room (leb (length (header sh)) size) l
         where
           r : Rounds
-          r = rounds T s size (freshWindow sh) next (length (header sh))
+          r = rounds T s size (freshWindow T sh) next (length (header sh))
 
           by-room : (t : Bool) → if t (behind (header sh) r) (nothingWritten (plain 11)) .line ≡ finished → 0 < length (if t (behind (header sh) r) (nothingWritten (plain 11)) .output)
           by-room true m = omega (arith, length-append (header sh) (r .output), length-header sh)
@@ -65,7 +66,7 @@ module _ (T : Table) (s : List ℕ) (size : ℕ) where
 
 -- ONCE A HEADER IS WRITTEN
 
-module _ (T : Table) (S : Suited T) (L : Layered T) (s : List ℕ) (size : ℕ) (b : Bytes s) where
+module _ (T : Table) (S : Suited T) (K : LongAs01 T) (s : List ℕ) (size : ℕ) (b : Bytes s) where
   module _ (sh : Shape) (next : ℕ) (e : headerAt s 0 ≡ done sh next) where
     range : InRange sh
     range = header-writes s 0 sh next b e .range
@@ -73,7 +74,7 @@ module _ (T : Table) (S : Suited T) (L : Layered T) (s : List ℕ) (size : ℕ) 
     inside : next ≤ length s
     inside = header-writes s 0 sh next b e .inside
 
-  module _ (sh : Shape) (next : ℕ) (e : headerAt s 0 ≡ done sh next) (r : Rounds) (f : Followed T s sh (freshWindow sh) next r) where
+  module _ (sh : Shape) (next : ℕ) (e : headerAt s 0 ≡ done sh next) (r : Rounds) (f : Followed T s sh (freshWindow T sh) next r) where
     abbrev input : Stream (List ℕ)
     input = record { shape = sh; records = f .rounds }
 
@@ -113,11 +114,11 @@ module _ (T : Table) (S : Suited T) (L : Layered T) (s : List ℕ) (size : ℕ) 
     receipts : playedOf T input .receipts ≡ receiptsOf (f .rounds) (f .results)
     receipts = ap (λ (p : Played). p .receipts) plays
 
-    law : Law T (freshWindow sh) (playedOf T input)
-    law = theorem.law T S L sh (range sh next e) (callsOf sh (f .rounds))
+    law : Law T (freshWindow T sh) (playedOf T input)
+    law = theorem.law T S sh (range sh next e) (callsOf sh (f .rounds))
 
     shape : playedOf T input .window .shape ≡ sh
-    shape = law .shape ∙ fresh-shape sh
+    shape = law .shape ∙ fresh-shape T sh
 
     on : Account T s (behind (header sh) r)
     on =
@@ -136,11 +137,11 @@ module _ (T : Table) (S : Suited T) (L : Layered T) (s : List ℕ) (size : ℕ) 
           whole = whole;
           receipts = receipts;
           steps = f .steps;
-          rests = ap (λ (p : Played). isRest (p .window .stage)) plays ∙ f .rests (fresh-rest sh);
+          rests = ap (λ (p : Played). isRest (p .window .stage)) plays ∙ f .rests (fresh-rest T sh);
           law = law;
-          conserved = in-streams T (playedOf T input) sh (f .rounds) (f .results) shape receipts (f .each) (law .conserved);
-          absent = none-absent T (playedOf T input) sh (f .rounds) (f .results) shape receipts (f .each) (law .absent);
-          settled = λ a k i. alone T (playedOf T input) sh (f .rounds) (f .results) shape receipts (f .each) S L (range sh next e) a (omega (arith, f .each)) (law .conserved) i;
+          conserved = in-streams T K (playedOf T input) sh (f .rounds) (f .results) shape receipts (f .each) (law .conserved);
+          absent = none-absent T K (playedOf T input) sh (f .rounds) (f .results) shape receipts (f .each) (law .absent);
+          settled = λ a k i. alone T K (playedOf T input) sh (f .rounds) (f .results) shape receipts (f .each) S (range sh next e) a (omega (arith, f .each)) (law .conserved) i;
         }
 
     window-account : WindowAccount T s sh r
@@ -157,17 +158,17 @@ module _ (T : Table) (S : Suited T) (L : Layered T) (s : List ℕ) (size : ℕ) 
       go (done sh next) e l = by-room (leb (length (header sh)) size) refl l
         where
           by-room : (t : Bool) → leb (length (header sh)) size ≡ t
-              → 0 < length (if t (behind (header sh) (rounds T s size (freshWindow sh) next (length (header sh)))) (nothingWritten (plain 11)) .output) → Account T s (decoded T s size)
+              → 0 < length (if t (behind (header sh) (rounds T s size (freshWindow T sh) next (length (header sh)))) (nothingWritten (plain 11)) .output) → Account T s (decoded T s size)
           by-room true k m =
               subst (λ (d : Decoded). Account T s d) (sym (decoded-on T s size sh next e k))
-              (on sh next e _ (followed T s b size sh (freshWindow sh) next (length (header sh)) (fresh-shape sh) (inside sh next e)))
+              (on sh next e _ (followed T K s b size sh (freshWindow T sh) next (length (header sh)) (fresh-shape T sh) (inside sh next e)))
           by-room false k m = absurd (omega arith)
 
-  in-pieces : (n : ℕ) (sh : Shape) (next : ℕ) → headerAt s 0 ≡ done sh next → WindowAccount T s sh (resumedFrom T s size n (freshWindow sh) next (length (header sh)))
-  in-pieces n sh next e = window-account sh next e _ (followed-resumed T s b size sh n (freshWindow sh) next (length (header sh)) (fresh-shape sh) (inside sh next e))
+  in-pieces : (n : ℕ) (sh : Shape) (next : ℕ) → headerAt s 0 ≡ done sh next → WindowAccount T s sh (resumedFrom T s size n (freshWindow T sh) next (length (header sh)))
+  in-pieces n sh next e = window-account sh next e _ (followed-resumed T K s b size sh n (freshWindow T sh) next (length (header sh)) (fresh-shape T sh) (inside sh next e))
 
-pub accounts : (T : Table) → Suited T → Layered T → Accounts T
-accounts T S L = record { account = λ s size b some. once T S L s size b some; finishes = written T; pieces = λ s size n b sh next e. in-pieces T S L s size b n sh next e }
+pub accounts : (T : Table) → Suited T → LongAs01 T → Accounts T
+accounts T S K = record { account = λ s size b some. once T S K s size b some; finishes = written T; pieces = λ s size n b sh next e. in-pieces T S K s size b n sh next e }
 
 pub accounts-base : Accounts base
-accounts-base = accounts base suited-base layered-base
+accounts-base = accounts base suited-base long-base

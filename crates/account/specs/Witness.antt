@@ -6,15 +6,15 @@ use mathlib.Core.Bool.{true, false}
 use mathlib.Core.List.{List, [], _∷_}
 use Rattle.number.specs.Number as number
 use Rattle.list.specs.Sheet as list
+use Rattle.steps.specs.Ranks as ranks
 use Rattle.steps.specs.Steps as steps
 use Rattle.steps.specs.Steps.{base}
-use Rattle.layers.specs.Layer as layer
+use Rattle.layers.specs.Layers as layers
 use Rattle.shape.specs.declared.Shape.{Shape}
 use Rattle.record.specs.Records as records
 use Rattle.record.specs.Records.{Result}
 use Rattle.trip.specs.Streams as streams
 use Rattle.trip.specs.Streams.{Stream, inputBytes, resultBytes}
-use Rattle.window.specs.Window as window
 use Rattle.law.specs.Law as law
 use Rattle.law.specs.Witness.{spot}
 use Rattle.decoding.specs.Decoding.{decoded}
@@ -58,6 +58,6 @@ pub record First : Type 0 where
   pub escapes : escapedIn escaping spot ≡ true
 
 pub first : First
-unfolding list.ones list.skips list.listed number.written number.groups records.header records.result streams.allBytes streams.bytesOf steps.base steps.across layer.edgeOf window.naming law.sum
+unfolding list.ones list.skips list.listed number.written number.groups records.header records.result streams.allBytes streams.bytesOf steps.base steps.across steps.naming ranks.rank ranks.pick layers.spans layers.edgeOf law.sum
 first =
     record { decodes = printed .first; received = refl; committed = refl; kept = refl; not-yet = refl; nor-escaped = refl; no-edge = refl; escapes = refl }

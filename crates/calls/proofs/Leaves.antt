@@ -1,12 +1,13 @@
 -- What a call leaves, by what its tests say. Assumes nothing.
 use Prim.Native.Nat.{ℕ}
-use mathlib.Core.Path.{_≡_, sym, _∙_, ap}
-use mathlib.Core.Bool.{Bool, not}
+use mathlib.Core.Path.{_≡_, refl, sym, _∙_, ap}
+use mathlib.Core.Bool.{Bool, true, false, not}
 use mathlib.Core.List.{List}
 use Rattle.refusal.specs.Answer.{Answer, done, turned, unless, valueOr, andThen, itself}
-use Rattle.refusal.specs.Laws.{turned-not, turned-passed, value-not, turned-as}
+use Rattle.refusal.specs.Laws.{undone, turned-not, turned-passed, value-not, turned-as}
 use Rattle.refusal.specs.Tests.{Passes, Turned}
 use Rattle.refusal.specs.declared.Refusal.{Refusal}
+use Rattle.shape.specs.Choice.{whether}
 use Rattle.steps.specs.Steps.{base}
 use Rattle.window.specs.Window.{isRest, isMerging, isToGrow}
 use Rattle.window.specs.Merging.{merged}
@@ -17,8 +18,12 @@ use Rattle.window.specs.declared.Window.{Window}
 use Rattle.calls.specs.Answers.{mergingLeaves, Ended, endedBy, runLeaves}
 use Rattle.window.specs.Grow.{grown}
 use Rattle.window.specs.Run.{ran}
+use Rattle.window.specs.LawsRun.{steps-rest, steps-on, none-left}
+use Rattle.window.specs.declared.Stage.{Stage}
+use Rattle.window.specs.declared.Stage.the-variants.{Rest, ToGrow, Merging}
 use Rattle.window.specs.declared.Ran.{Ran}
-use Rattle.tested.proofs.State.{fine, state-turned, state-passes}
+use Rattle.shows.specs.Run.{ran-merging}
+use Rattle.tested.proofs.State.{fine, state-turned, state-passes, state-fine}
 
 -- A WINDOW'S ANSWER
 
@@ -46,6 +51,18 @@ module _ (w : Window) (b : Bool) (same : b ≡ isToGrow (w .stage)) (r : Called)
 
 -- MERGING
 
+-- neither rest nor to grow
+pub merging-on : (s : Stage) → isMerging s ≡ true → (isRest s ≡ false) × (isToGrow s ≡ false)
+merging-on Rest e = absurd (undone (sym e))
+merging-on ToGrow e = absurd (undone (sym e))
+merging-on Merging e = (refl, refl)
+
+-- a step is a run of one
+one-step : (w : Window) → isToGrow (w .stage) ≡ false → ran base 1 w ≡ record { window = merged base w; rest = isRest (merged base w .stage); count = 1 }
+one-step w t =
+    ran-merging base 1 w t
+    ∙ whether (isRest (merged base w .stage)) (λ e. rw (steps-rest base 0 w 0 e, e)) (λ e. rw (steps-on base 0 w 0 e, none-left base 1 (merged base w), e))
+
 abbrev merges : Window → Answer Window → Answered Bool
 merges w a = given (andThen a (λ v n. done (isRest (v .stage)) n)) (valueOr a itself w)
 
@@ -58,10 +75,11 @@ module _ (w : Window) (b : Bool) (same : b ≡ isMerging (w .stage)) (r : Called
         value-not (turned {A = Window} f) itself w (turned-not Window f),
       ))
 
-  pub merging-done : (v : Window) (rest : Bool) → r ≡ called.Done → v ≡ merged base w → rest ≡ isRest (v .stage) → given (done rest 0) v ≡ mergingLeaves base w
+  pub merging-done : (v : Ran) (rest : Bool) → r ≡ called.Done → v ≡ ran base 1 w → rest ≡ v .rest → given (done rest 0) (v .window) ≡ mergingLeaves base w
   unfolding mergingCall
   merging-done v rest z e f =
-      rw (f, e) (sym (ap (λ (a : Answer Window). merges w a) (state-passes w b (isMerging (w .stage)) same r as-told z Window (done (merged base w) 0))))
+      let t = state-fine w b (isMerging (w .stage)) same r as-told z .1 in
+      rw (f, e, one-step w (merging-on (w .stage) t .1)) (sym (ap (λ (a : Answer Window). merges w a) (state-passes w b (isMerging (w .stage)) same r as-told z Window (done (merged base w) 0))))
 
 -- RUNNING
 

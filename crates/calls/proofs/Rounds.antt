@@ -8,44 +8,35 @@ use Rattle.refusal.specs.Answer.{Answer, done, turned, unless}
 use Rattle.refusal.specs.Laws.{turned-not, turned-passed, value-not}
 use Rattle.refusal.specs.Tests.{tests-fine, tests-turned}
 use Rattle.refusal.specs.declared.Refusal.{Refusal}
-use Rattle.shape.specs.Ranges.{halves}
-use Rattle.shape.specs.Sizes.{inRange, detectorsOf, layerEdgesOf}
+use Rattle.shape.specs.Sizes.{detectorsOf, layerEdgesOf}
 use Rattle.steps.specs.Steps.{base}
-use Rattle.window.specs.Window.{maxNext}
+use Rattle.window.specs.Window.{isRest, maxNext}
 use Rattle.window.specs.Formed.{wellFormed}
-use Rattle.window.specs.Calls.{callAnswer, Round, windowOf, edgesOf, escapesOf, roundTests, roundBy}
+use Rattle.window.specs.Calls.{callAnswer, Round, windowOf, edgesOf, escapesOf, roundTests, receiving, roundBy}
 use Rattle.window.specs.declared.Called.{Called}
 use Rattle.window.specs.declared.Called.the-variants as called
 use Rattle.window.specs.declared.Window.{Window}
+use Rattle.closure.specs.Done.{accepted}
 use Rattle.calls.specs.Answers.{roundReturned, roundLeft}
 use Rattle.tested.proofs.State.{fine}
 use Rattle.tested.proofs.Round.{round-fine}
 
--- a well-formed window has a shape in range
-pub formed-ranged : (w : Window) → wellFormed base w ≡ true → inRange (w .shape .height) (w .shape .distance) ≡ true
-unfolding wellFormed
-formed-ranged w e =
-    let a = halves _ _ e in
-    let b = halves _ _ (a .0) in
-    let c = halves _ _ (b .0) in
-    let d = halves _ _ (c .0) in
-    let f = halves _ _ (d .0) in
-    let g = halves _ _ (f .0) in
-    halves _ _ (g .0) .0
-
 -- what a round asks for, where its tests passed
 pub record Asked (w : Window) (bytes edges escapes : List ℕ) : Type 0 where
   pub asked :
-      (inRange (w .shape .height) (w .shape .distance) ≡ true)
+      (wellFormed base w ≡ true)
+      × ((isRest (w .stage) ≡ true)
       × ((w .next < maxNext)
       × ((length bytes ≡ detectorsOf (w .shape .height) (w .shape .distance))
-      × ((length edges ≡ layerEdgesOf (w .shape .height) (w .shape .distance)) × (length escapes ≡ detectorsOf (w .shape .height) (w .shape .distance)))))
+      × ((length edges ≡ layerEdgesOf (w .shape .height) (w .shape .distance)) × (length escapes ≡ detectorsOf (w .shape .height) (w .shape .distance))))))
 
 pub asks : (w : Window) (bytes edges escapes : List ℕ) (r : Called) → callAnswer r ≡ unless (roundTests base w bytes (length edges) (length escapes)) fine → r ≡ called.Done
     → Asked w bytes edges escapes
 asks w bytes edges escapes r told-as z =
     let f = round-fine w bytes (length edges) (length escapes) r told-as z in
-    record { asked = (formed-ranged w (f .formed), (f .next, (f .sheet, (f .layer, f .bottom)))) }
+    let v = receiving base w bytes in
+    let p = tests-fine (roundTests base w bytes (length edges) (length escapes)) (sym (ap callAnswer (sym z) ∙ told-as)) Round (done v 0) in
+    record { asked = (f .formed, (accepted base w bytes edges escapes v v 0 p .staged, (f .next, (f .sheet, (f .layer, f .bottom))))) }
 
 -- plain or raw: v is what the call leaves where it is done
 module _ (w : Window) (bytes edges escapes : List ℕ) (v : Round) where

@@ -46,7 +46,7 @@ pub fn round(w: Window, bytes: &[u8], edges: &mut [u8], escapes: &mut [u8]) -> G
     }
     Given {
         answer: Called::Done,
-        window: round::round(w, bytes, edges, escapes),
+        window: machine::round(w, bytes, edges, escapes),
     }
 }
 
@@ -81,11 +81,11 @@ pub fn grow(w: Window) -> Given
     }
     Given {
         answer: Called::Done,
-        window: grow::grow(w),
+        window: machine::grow(w),
     }
 }
 
-// Makes one merging step.
+// Makes one merging step: a run of one.
 pub fn merging(w: Window) -> MergingGiven
     ensures { λ r. ⌜ given (mergingAnswer (r .answer)) (r .window) ≡ mergingLeaves base w ⌝ }
 {
@@ -97,9 +97,9 @@ pub fn merging(w: Window) -> MergingGiven
             window: w,
         };
     }
-    let window = merge::merge(w);
-    let after = window.stage;
-    if window::is_rest(after) {
+    let ran = machine::run(w, 1);
+    let window = ran.window;
+    if ran.rest {
         return MergingGiven {
             answer: Merged::Rest,
             window,
@@ -123,7 +123,7 @@ pub fn run(w: Window, budget: u32) -> Concluded
             window: w,
         };
     }
-    let ran = run::run(w, budget);
+    let ran = machine::run(w, budget);
     let window = ran.window;
     if ran.rest {
         return Concluded {

@@ -1,6 +1,5 @@
 -- WHAT STANDS WHERE AFTER A RULE: at a node, and in the slot of a node's own edge of a kind. Assumes nothing.
 use Prim.Native.Nat.{ℕ, _+_, _-_, _*_, _≤_, _<_}
-use native.Mathlib.Nat.{mul-add}
 use native.Mathlib.Omega.{arith}
 use mathlib.Core.Path.{_≡_, _∙_, ap}
 use mathlib.Core.Bool.{Bool, true, false, _&&_}
@@ -11,26 +10,27 @@ use lib.ListN.{getD, replicate}
 use Rattle.shape.specs.Choice.{if, if-true, if-false}
 use Rattle.shape.specs.Sizes.{nodesOf, maxNodes}
 use Rattle.shape.specs.Nodes.{numberOf, placeAt}
-use Rattle.steps.specs.Steps.{Table, falls}
+use Rattle.steps.specs.Steps.{Table, falls, namer, slotIn}
+use Rattle.steps.specs.Slots.{slot-within}
 use Rattle.shape.specs.declared.Shape.{Shape}
 use Rattle.window.specs.Lists.{over}
 use Rattle.window.specs.LawsLists.{over-at}
-use Rattle.window.specs.Window.{alone, unused, beyond, namer, size, sheet, at, place, detector, bottom, to}
+use Rattle.window.specs.Window.{alone, unused, beyond, size, sheet, at, place, detector, bottom, to}
 use Rattle.window.specs.Fresh.{freshWindow}
 use Rattle.window.specs.Round.{sunk, topNode, fallenNode, atTop, fallenSlot, rounded}
 use Rattle.window.specs.Grow.{gains, cut, grownSlot, grownNode, grown}
 use Rattle.window.specs.Merging.{flipped, seen, stepAt, flippedSlot, merged}
 use Rattle.window.specs.declared.Window.{Window}
-use Rattle.closure.specs.Lists.{slot-of, slot-within}
+use Rattle.closure.specs.Lists.{slot-of}
 
-module _ (sh : Shape) where
+module _ (T : Table) (sh : Shape) where
   abbrev h : ℕ
   h = sh .height
 
   abbrev d : ℕ
   d = sh .distance
 
-  pub fresh-at : (g : ℕ) → g < nodesOf h d → at (freshWindow sh) g ≡ alone (numberOf h d (placeAt h d g)) false
+  pub fresh-at : (g : ℕ) → g < nodesOf h d → at (freshWindow T sh) g ≡ alone (numberOf h d (placeAt h d g)) false
   unfolding freshWindow
   fresh-at g l = over-at (λ i. alone (numberOf h d (placeAt h d i)) false) (replicate maxNodes unused) (nodesOf h d) g beyond l
 
@@ -79,17 +79,17 @@ module _ (T : Table) (w : Window) (g : ℕ) (l : g < size w) where
 
 module _ (T : Table) (w : Window) (g kind : ℕ) (l : g < size w) (m : kind < T .kinds) where
   abbrev e : ℕ
-  e = T .kinds * g + kind
+  e = slotIn (size w) kind g
 
   in-slots : e < T .kinds * size w
-  in-slots = slot-within (T .kinds) g kind m (size w) l
+  in-slots = slot-within (size w) kind g l (T .kinds) m
 
   fallen : {A : Type 0} (z : A) (old : List A)
-      → getD (over (T .kinds * size w) (fallenSlot T w z old) old) e z ≡ if (atTop T w g (namer T kind)) z (getD old (e - T .kinds * sheet w) z)
+      → getD (over (T .kinds * size w) (fallenSlot T w z old) old) e z ≡ if (atTop T w g (namer T kind)) z (getD old (e - sheet w) z)
   unfolding fallenSlot
   fallen z old =
       over-at (fallenSlot T w z old) old (T .kinds * size w) e z in-slots
-      ∙ slot-of (T .kinds) g kind m (λ i k. if (atTop T w i (namer T k)) z (getD old (e - T .kinds * sheet w) z))
+      ∙ slot-of (size w) kind g l (λ k i. if (atTop T w i (namer T k)) z (getD old (e - sheet w) z))
 
   -- in the new top sheet, or up to it
   pub top-slot : {A : Type 0} (z : A) (old : List A) → atTop T w g (namer T kind) ≡ true → getD (over (T .kinds * size w) (fallenSlot T w z old) old) e z ≡ z
@@ -97,20 +97,20 @@ module _ (T : Table) (w : Window) (g kind : ℕ) (l : g < size w) (m : kind < T 
 
   -- below node a
   pub sunk-slot : {A : Type 0} (z : A) (old : List A) (a : ℕ) → g ≡ a + sheet w → atTop T w g (namer T kind) ≡ false
-      → getD (over (T .kinds * size w) (fallenSlot T w z old) old) e z ≡ getD old (T .kinds * a + kind) z
+      → getD (over (T .kinds * size w) (fallenSlot T w z old) old) e z ≡ getD old (slotIn (size w) kind a) z
   sunk-slot z old a x t =
-      let y : e - T .kinds * sheet w ≡ T .kinds * a + kind = omega (arith, ap (λ (i : ℕ). T .kinds * i) x, mul-add (T .kinds) a (sheet w)) in
+      let y : e - sheet w ≡ slotIn (size w) kind a = omega arith in
       fallen z old ∙ if-false _ _ _ t ∙ ap (λ (i : ℕ). getD old i z) y
 
   pub grown-slot : let r = to w T (namer T kind) g in getD (grown T w .growth) e 0 ≡ gains r (getD (w .growth) e 0) (at w g) (at w (r .node))
   unfolding grown grownSlot
   grown-slot =
       over-at (grownSlot T w) (w .growth) (T .kinds * size w) e 0 in-slots
-      ∙ slot-of (T .kinds) g kind m (λ i k. let r = to w T (namer T k) i in gains r (getD (w .growth) e 0) (at w i) (at w (r .node)))
+      ∙ slot-of (size w) kind g l (λ k i. let r = to w T (namer T k) i in gains r (getD (w .growth) e 0) (at w i) (at w (r .node)))
 
   pub flipped-slot : getD (merged T w .correction) e false
       ≡ flipped (getD (w .correction) e false) (detector w g) (at w g) (namer T kind) (seen T w g (namer T kind - 1))
   unfolding merged flippedSlot
   flipped-slot =
       over-at (flippedSlot T w) (w .correction) (T .kinds * size w) e false in-slots
-      ∙ slot-of (T .kinds) g kind m (λ i k. flipped (getD (w .correction) e false) (detector w i) (at w i) (namer T k) (seen T w i (namer T k - 1)))
+      ∙ slot-of (size w) kind g l (λ k i. flipped (getD (w .correction) e false) (detector w i) (at w i) (namer T k) (seen T w i (namer T k - 1)))

@@ -7,7 +7,7 @@ use borrow.Author.Tests.{not-true}
 use lib.ListN.{length}
 use Rattle.refusal.specs.Answer.{done}
 use Rattle.shape.specs.Sizes.{inRange, detectorsOf}
-use Rattle.steps.specs.Steps.{Table, base}
+use Rattle.steps.specs.Steps.{Table}
 use Rattle.shape.specs.declared.Shape.{Shape}
 use Rattle.window.specs.Window.{isRest, isToGrow, isMerging}
 use Rattle.window.specs.Formed.{wellFormed}
@@ -21,7 +21,9 @@ use Rattle.window.specs.declared.Ran.{Ran}
 use Rattle.window.specs.Calls.{Round, receiving, receivingRaw, freshCall, roundCall, rawCall, growCall, mergingCall, runCall}
 use Rattle.window.specs.declared.Window.{Window}
 use Rattle.closure.specs.Sized.{Sized}
-use Rattle.closure.specs.Suited.{Suited, suited-base}
+use Rattle.steps.specs.Moves.{Move, Steps, tableOf}
+use Rattle.steps.specs.Suited.{Suited}
+use Rattle.steps.specs.Suits.{suited}
 use Rattle.closure.specs.Fresh.{fresh, fresh-sized}
 use Rattle.closure.specs.Round.{round, round-sized}
 use Rattle.closure.specs.Measured.{measure, measure-sized}
@@ -33,35 +35,35 @@ use Rattle.closure.specs.Done.{started, staged, accepted}
 -- well-formed, with arrays of their lengths
 pub record Kept (T : Table) (w : Window) : Type 0 where
   pub formed : wellFormed T w ≡ true
-  pub sized : Sized w
+  pub sized : Sized T w
 
 -- THE STATEMENT, for each call on any window whose arrays have their lengths, whatever else it is given
 pub record Closed (T : Table) : Type 0 where
-  pub freshCalls : (height distance : ℕ) (v : Window) (n : ℕ) → freshCall height distance ≡ done v n → Kept T v
-  pub roundCalls : (w : Window) (bytes edges escapes : List ℕ) (v : Round) (n : ℕ) → Sized w → roundCall T w bytes edges escapes ≡ done v n → Kept T (v .window)
-  pub rawCalls : (w : Window) (bytes edges escapes : List ℕ) (v : Round) (n : ℕ) → Sized w → rawCall T w bytes edges escapes ≡ done v n → Kept T (v .window)
-  pub growCalls : (w v : Window) (n : ℕ) → Sized w → growCall T w ≡ done v n → Kept T v
-  pub mergingCalls : (w v : Window) (n : ℕ) → Sized w → mergingCall T w ≡ done v n → Kept T v
-  pub runCalls : (w : Window) (budget : ℕ) (v : Ran) (n : ℕ) → Sized w → runCall T w budget ≡ done v n → Kept T (v .window)
+  pub freshCalls : (height distance : ℕ) (v : Window) (n : ℕ) → freshCall T height distance ≡ done v n → Kept T v
+  pub roundCalls : (w : Window) (bytes edges escapes : List ℕ) (v : Round) (n : ℕ) → Sized T w → roundCall T w bytes edges escapes ≡ done v n → Kept T (v .window)
+  pub rawCalls : (w : Window) (bytes edges escapes : List ℕ) (v : Round) (n : ℕ) → Sized T w → rawCall T w bytes edges escapes ≡ done v n → Kept T (v .window)
+  pub growCalls : (w v : Window) (n : ℕ) → Sized T w → growCall T w ≡ done v n → Kept T v
+  pub mergingCalls : (w v : Window) (n : ℕ) → Sized T w → mergingCall T w ≡ done v n → Kept T v
+  pub runCalls : (w : Window) (budget : ℕ) (v : Ran) (n : ℕ) → Sized T w → runCall T w budget ≡ done v n → Kept T (v .window)
 
 -- THE RULES
 
-pub kept-fresh : (T : Table) (sh : Shape) → inRange (sh .height) (sh .distance) ≡ true → Kept T (freshWindow sh)
-kept-fresh T sh e = record { formed = fresh T sh e; sized = fresh-sized sh }
+pub kept-fresh : (T : Table) (sh : Shape) → inRange (sh .height) (sh .distance) ≡ true → Kept T (freshWindow T sh)
+kept-fresh T sh e = record { formed = fresh T sh e; sized = fresh-sized T sh }
 
 module _ (T : Table) (S : Suited T) where
   module _ (w : Window) (k : Kept T w) where
     pub kept-round : (defects : List ℕ) → isRest (w .stage) ≡ true → Kept T (rounded T w defects)
-    kept-round defects st = record { formed = round T w defects S (k .formed) st; sized = round-sized T w defects (S .room) (k .sized) }
+    kept-round defects st = record { formed = round T w defects S (k .formed) st; sized = round-sized T w defects (k .sized) }
 
     pub kept-measuring : (bytes : List ℕ) → length bytes ≡ detectorsOf (w .shape .height) (w .shape .distance) → Kept T (measuring w bytes)
     kept-measuring bytes long = record { formed = measure T w bytes long (k .formed); sized = measure-sized T w bytes long (k .formed) (k .sized) }
 
     pub kept-grow : Kept T (grown T w)
-    kept-grow = record { formed = grow T (S .proper) w (k .formed); sized = grow-sized T w (S .room) (k .sized) }
+    kept-grow = record { formed = grow T (S .proper) w (k .formed); sized = grow-sized T w (k .sized) }
 
     pub kept-merging : isMerging (w .stage) ≡ true → Kept T (merged T w)
-    kept-merging st = record { formed = merging T w S (k .formed) st; sized = merging-sized T w (S .room) (k .sized) }
+    kept-merging st = record { formed = merging T w S (k .formed) st; sized = merging-sized T w (k .sized) }
 
   -- a round of raw measurements
   pub kept-raw : (w : Window) → Kept T w → (bytes : List ℕ) → isRest (w .stage) ≡ true → length bytes ≡ detectorsOf (w .shape .height) (w .shape .distance)
@@ -77,10 +79,10 @@ module _ (T : Table) (S : Suited T) where
 -- THE CALLS
 
 module _ (T : Table) (S : Suited T) where
-  fresh-done : (h d : ℕ) (v : Window) (n : ℕ) → freshCall h d ≡ done v n → Kept T v
-  fresh-done h d v n e = let x = started h d v n e in subst (λ (u : Window). Kept T u) (x .value) (kept-fresh T (record { height = h; distance = d }) (x .ranged))
+  fresh-done : (h d : ℕ) (v : Window) (n : ℕ) → freshCall T h d ≡ done v n → Kept T v
+  fresh-done h d v n e = let x = started T h d v n e in subst (λ (u : Window). Kept T u) (x .value) (kept-fresh T (record { height = h; distance = d }) (x .ranged))
 
-  module _ (w : Window) (s : Sized w) where
+  module _ (w : Window) (s : Sized T w) where
     round-done : (bytes edges escapes : List ℕ) (v : Round) (n : ℕ) → roundCall T w bytes edges escapes ≡ done v n → Kept T (v .window)
     unfolding roundCall
     round-done bytes edges escapes v n e =
@@ -122,5 +124,6 @@ module _ (T : Table) (S : Suited T) where
         runCalls = λ w budget v n s e. run-done w s budget v n e;
       }
 
-pub closed-base : Closed base
-closed-base = closed base suited-base
+-- of every table of steps
+pub closed-steps : (ms : List Move) → Steps ms → Closed (tableOf ms)
+closed-steps ms M = closed (tableOf ms) (suited ms M)

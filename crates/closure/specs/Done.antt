@@ -10,8 +10,9 @@ use Rattle.refusal.specs.Answer.{Answer, done, ended, refused, refusedAt, unles
 use Rattle.refusal.specs.Done.{went, took}
 use Rattle.refusal.specs.Tests.{tests-done}
 use Rattle.list.specs.Sheet.{areBits}
+use Rattle.layers.specs.Layers.{layerEdges}
 use Rattle.shape.specs.Ranges.{both}
-use Rattle.shape.specs.Sizes.{heightOk, distanceOk, inRange, shapeOf, detectorsOf, layerEdgesOf}
+use Rattle.shape.specs.Sizes.{heightOk, distanceOk, inRange, shapeOf, detectorsOf}
 use Rattle.steps.specs.Steps.{Table}
 use Rattle.shape.specs.declared.Shape.{Shape}
 use Rattle.window.specs.Window.{isRest, maxNext}
@@ -29,19 +30,19 @@ leaves-keeps P (refusedAt n at) of w k e = k
 
 -- FRESH
 
-pub record Started (height distance : ℕ) (w : Window) : Type 0 where
+pub record Started (T : Table) (height distance : ℕ) (w : Window) : Type 0 where
   pub ranged : inRange height distance ≡ true
-  pub value : freshWindow (record { height = height; distance = distance }) ≡ w
+  pub value : freshWindow T (record { height = height; distance = distance }) ≡ w
 
-pub started : (h d : ℕ) (w : Window) (n : ℕ) → freshCall h d ≡ done w n → Started h d w
+pub started : (T : Table) (h d : ℕ) (w : Window) (n : ℕ) → freshCall T h d ≡ done w n → Started T h d w
 unfolding freshCall
-started h d w n e =
-    let x = went (shapeOf h d) (λ sh m. done (freshWindow sh) m) w n e in
+started T h d w n e =
+    let x = went (shapeOf h d) (λ sh m. done (freshWindow T sh) m) w n e in
     let a = took (heightOk h) _ (refused 1) (x .value) (x .next) refl (x .before) in
     let b = took (distanceOk d) _ (refused 2) (x .value) (x .next) refl (a .1) in
     let sh : Shape = record { height = h; distance = d } in
     let same : sh ≡ x .value = tests-done [] sh (x .value) 0 (x .next) (b .1) in
-    record { ranged = both _ _ (a .0) (b .0); value = ap (λ (s : Shape). freshWindow s) same ∙ tests-done [] (freshWindow (x .value)) w (x .next) n (x .after) }
+    record { ranged = both _ _ (a .0) (b .0); value = ap (λ (s : Shape). freshWindow T s) same ∙ tests-done [] (freshWindow T (x .value)) w (x .next) n (x .after) }
 
 -- GROW, MERGING AND RUN
 
@@ -73,7 +74,7 @@ accepted T w bytes edges escapes v r n e =
     let b = took (isRest (w .stage)) _ (refused 22) r n refl (a .1) in
     let c = took (ltb (w .next) maxNext) _ (refused 23) r n refl (b .1) in
     let d = took (eqb (length bytes) (detectorsOf (w .shape .height) (w .shape .distance))) _ (refused 3) r n refl (c .1) in
-    let f = took (eqb (length edges) (layerEdgesOf (w .shape .height) (w .shape .distance))) _ (refused 5) r n refl (d .1) in
+    let f = took (eqb (length edges) (layerEdges T (w .shape .height) (w .shape .distance))) _ (refused 5) r n refl (d .1) in
     let g = took (eqb (length escapes) (detectorsOf (w .shape .height) (w .shape .distance))) _ (refused 6) r n refl (f .1) in
     let i = took (areBits bytes) _ (refused 4) r n refl (g .1) in
     record { formed = a .0; staged = b .0; long = eqb-true _ _ (d .0); bits = i .0; value = tests-done [] v r 0 n (i .1) }

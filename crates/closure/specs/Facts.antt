@@ -14,14 +14,14 @@ use Rattle.shape.specs.Sizes.{sheetsOf, boundary, nodesIn, nodesOf, detectorsOf
 use Rattle.shape.specs.Nodes.{indexOf, numberOf, placeAt}
 use Rattle.shape.specs.LawsIndex.{index-lt, index-inside}
 use Rattle.shape.specs.LawsNumber.{numbered, number-lt}
-use Rattle.steps.specs.Steps.{Table, step, across}
+use Rattle.steps.specs.Steps.{Table, step, across, namer, slotIn}
 use Rattle.steps.specs.Joins.{Joins}
 use Rattle.shape.specs.declared.Place.{Place}
 use Rattle.shape.specs.Counting.{Inside, wider}
 use Rattle.window.specs.Lists.{every, all}
 use Rattle.window.specs.LawsLists.{every-at, every-by}
 use Rattle.window.specs.LawsPresent.{supplied-le}
-use Rattle.window.specs.Window.{alone, namer, size, supplied, present, pointed, at, place, to}
+use Rattle.window.specs.Window.{alone, size, supplied, present, pointed, at, place, to}
 use Rattle.window.specs.Formed.{isNumber, isFresh, markFits, pointerFits, defectFits, nodeFits, nodeFitsAt, isEmpty, slotFitsAt, unusedNode, wellFormed}
 use Rattle.window.specs.declared.Mark.{Mark}
 use Rattle.window.specs.declared.Mark.the-variants.{Reset, Root}
@@ -145,7 +145,7 @@ pub record Slot (there : Bool) (growth : ℕ) (correction : Bool) : Type 0 where
 
 -- node g's own edge of a kind, with what the lists hold in its slot
 abbrev pub SlotOf : Table → Window → ℕ → ℕ → List ℕ → List Bool → Type 0
-SlotOf T w g kind growth correction = Slot (to w T (namer T kind) g .there) (getD growth (T .kinds * g + kind) 0) (getD correction (T .kinds * g + kind) false)
+SlotOf T w g kind growth correction = Slot (to w T (namer T kind) g .there) (getD growth (slotIn (size w) kind g) 0) (getD correction (slotIn (size w) kind g) false)
 
 -- THE WINDOW
 

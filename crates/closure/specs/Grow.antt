@@ -1,5 +1,5 @@
 -- GROW keeps a window well-formed. Assumes nothing.
-use Prim.Native.Nat.{ℕ, _+_, _-_, _*_, _≤_, _<_, min}
+use Prim.Native.Nat.{ℕ, _+_, _-_, _*_, _<_, min}
 use native.Mathlib.Nat.{min-le-left, min-le-right}
 use mathlib.Core.Path.{_≡_, refl, sym, _∙_, ap}
 use mathlib.Core.Bool.{Bool, true, false, _&&_}
@@ -9,11 +9,11 @@ use Rattle.refusal.specs.Laws.{undone}
 use Rattle.shape.specs.Choice.{if-false, tell}
 use Rattle.shape.specs.Sizes.{sheetsOf}
 use Rattle.shape.specs.Nodes.{numberOf}
-use Rattle.steps.specs.Steps.{Table, falls}
+use Rattle.steps.specs.Steps.{Table, falls, namer, slotIn}
 use Rattle.steps.specs.Proper.{Proper}
 use Rattle.window.specs.LawsLists.{and-no}
 use Rattle.window.specs.Lists.{bit}
-use Rattle.window.specs.Window.{alone, namer, size, ledTo, present, pointed, at, place, bottom, to}
+use Rattle.window.specs.Window.{alone, size, ledTo, present, pointed, at, place, bottom, to}
 use Rattle.window.specs.Grow.{gains, grownSlot, grownNode, grown}
 use Rattle.window.specs.Formed.{markFits, isEmpty, unusedNode, wellFormed}
 use Rattle.window.specs.declared.Mark.{Mark}
@@ -78,7 +78,7 @@ module _ (T : Table) (P : Proper T) (w : Window) where
 
     slot-fits : (g kind : ℕ) → g < size w → kind < T .kinds → SlotOf T w g kind (grown T w .growth) (w .correction)
     slot-fits g kind l m =
-        let e = T .kinds * g + kind in
+        let e = slotIn (size w) kind g in
         let way = to w T (namer T kind) g in
         rw (grown-slot T w g kind l m) (gains-fits way (getD (w .growth) e 0) (at w g) (at w (way .node)) (getD (w .correction) e false) (f .slots g kind l m))
 
@@ -100,6 +100,6 @@ module _ (T : Table) (P : Proper T) (w : Window) where
   grow e = formed T (grown T w) (grown-facts (facts T w e))
 
 module _ (T : Table) (w : Window) where
-  pub grow-sized : T .kinds ≤ 3 → Sized w → Sized (grown T w)
+  pub grow-sized : Sized T w → Sized T (grown T w)
   unfolding grown
-  grow-sized l s = record { nodes = nodes-over w s (grownNode T w); growth = growth-over w s (T .kinds) l (grownSlot T w); correction = s .correction; measured = s .measured }
+  grow-sized s = record { nodes = nodes-over w T s (grownNode T w); growth = growth-over w T s (grownSlot T w); correction = s .correction; measured = s .measured }

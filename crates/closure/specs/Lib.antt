@@ -1,13 +1,14 @@
 pub mod Lists
 pub mod States
 pub mod Sized
-pub mod Suited
 pub mod Edges
 pub mod Facts
 pub mod Sight
+pub mod Ways
 pub mod After
 pub mod Lower
 pub mod LowerNumbers
+pub mod LowerSlots
 pub mod PlainPointers
 pub mod Scan
 pub mod Fresh

@@ -40,7 +40,7 @@ module _ (T : Table) (w : Window) (bytes : List ℕ) (long : length bytes ≡ de
   pub measure : wellFormed T w ≡ true → wellFormed T (measuring w bytes) ≡ true
   measure e = formed T (measuring w bytes) (measured-facts (facts T w e))
 
-  pub measure-sized : wellFormed T w ≡ true → Sized w → Sized (measuring w bytes)
+  pub measure-sized : wellFormed T w ≡ true → Sized T w → Sized T (measuring w bytes)
   unfolding measuring asSheet
   measure-sized e s =
       let n = length-replicate maxDetectors false in

@@ -12,9 +12,10 @@ use Rattle.shape.specs.Choice.{if, if-false, tell}
 use Rattle.shape.specs.Ranges.{halves}
 use Rattle.shape.specs.Sizes.{sheetsOf, boundary, nodesIn}
 use Rattle.shape.specs.Nodes.{numberOf}
-use Rattle.steps.specs.Steps.{Table}
+use Rattle.steps.specs.Steps.{Table, namer, slotIn}
 use Rattle.window.specs.Lists.{byPlace, any, xor}
-use Rattle.window.specs.Window.{alone, isRest, isMerging, namer, size, supplied, ledTo, present, pointed, at, place, detector, to}
+use Rattle.window.specs.Window.{alone, isRest, isMerging, size, supplied, ledTo, present, pointed, at, place, detector, to}
+use Rattle.steps.specs.Suited.{Suited}
 use Rattle.window.specs.Merging.{nothing, syncedActive, arrivals, scan, flooded, syncedDefect, flipped, floods, stepped, seen, stepAt, flippedSlot, merged}
 use Rattle.window.specs.Formed.{markFits, unusedNode, wellFormed}
 use Rattle.window.specs.declared.Mark.{Mark}
@@ -27,7 +28,6 @@ use Rattle.window.specs.declared.Window.{Window}
 use Rattle.closure.specs.Lists.{all-over, any-at, either}
 use Rattle.closure.specs.States.{merging-led}
 use Rattle.closure.specs.Sized.{Sized, nodes-over, correction-over}
-use Rattle.closure.specs.Suited.{Suited}
 use Rattle.closure.specs.Edges.{edge, edge-absent}
 use Rattle.closure.specs.Facts.{Pointing, centre, along, Fits, Slot, Facts, facts, formed, own-lt, node-within, SlotOf}
 use Rattle.closure.specs.Sight.{seen-edge, seen-none, seen-there, seen-grown}
@@ -154,7 +154,7 @@ module _ (T : Table) (w : Window) where
 
     slot-fits : Suited T → (g kind : ℕ) → g < size w → kind < T .kinds → SlotOf T w g kind (w .growth) (merged T w .correction)
     slot-fits S g kind l m =
-        let e = T .kinds * g + kind in
+        let e = slotIn (size w) kind g in
         rw (flipped-slot T w g kind l m)
         (flipped-fits g (namer T kind) (getD (w .growth) e 0) (getD (w .correction) e false) (S .named kind m) (f .slots g kind l m))
 
@@ -175,9 +175,9 @@ module _ (T : Table) (w : Window) where
   pub merging : Suited T → wellFormed T w ≡ true → isMerging (w .stage) ≡ true → wellFormed T (merged T w) ≡ true
   merging S e st = formed T (merged T w) (merged-facts (facts T w e) st S)
 
-  pub merging-sized : T .kinds ≤ 3 → Sized w → Sized (merged T w)
+  pub merging-sized : Sized T w → Sized T (merged T w)
   unfolding merged
-  merging-sized l s = record { nodes = nodes-over w s (λ i. stepAt T w i .node); growth = s .growth; correction = correction-over w s (T .kinds) l (flippedSlot T w); measured = s .measured }
+  merging-sized s = record { nodes = nodes-over w T s (λ i. stepAt T w i .node); growth = s .growth; correction = correction-over w T s (flippedSlot T w); measured = s .measured }
 
   -- a merging step ends in stage merging or at rest
   pub merging-stage : isRest (merged T w .stage) ≡ false → isMerging (merged T w .stage) ≡ true

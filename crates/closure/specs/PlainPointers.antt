@@ -11,9 +11,10 @@ use Rattle.shape.specs.Counting.{Inside, wider}
 use Rattle.shape.specs.Ranges.{halves, both}
 use Rattle.shape.specs.Sizes.{sheetsOf, boundary}
 use Rattle.shape.specs.declared.Place.{Place}
-use Rattle.steps.specs.Steps.{base, step, across, still, alongRow, bothDetectors, falls}
+use Rattle.steps.specs.Steps.{base, step, across, still, alongRow, oneApart, beside, bothDetectors, falls}
 use Rattle.steps.specs.Joins.{Joins}
-use Rattle.steps.specs.Proper.{proper-base, falls-down}
+use Rattle.steps.specs.Proper.{falls-down}
+use Rattle.steps.specs.Models.{suited-base}
 use Rattle.window.specs.Window.{isToGrow, reach, supplied, ledTo}
 use Rattle.window.specs.Formed.{pointerFits}
 use Rattle.window.specs.declared.Stage.{Stage}
@@ -57,13 +58,16 @@ module _ (h d : ℕ) (q : Place) (i : Inside h d (sheetsOf d) q) where
       (λ t.
       let x = halves (eqb (q .depth + 1) s) (falls base p) t in
       let l : step base p .sheet .less < step base p .sheet .more = ltb-true _ _ (x .1) in
-      let level : alongRow (step base p) ≡ true → ⊥
-      = λ k. let z : step base p .sheet .less ≡ step base p .sheet .more = eqb-true _ _ (halves (still (step base p .row)) (still (step base p .sheet)) k .1) in omega (arith, l, z) in
-      let inner = choice (alongRow (step base p)) (bothDetectors d (step base p) q) (j .kind) (λ k. absurd (level k)) (λ k. halves _ _ k .0) in
+      let level : beside (step base p) ≡ true → ⊥
+      = λ k.
+      let row = halves (alongRow (step base p)) (oneApart (step base p .column)) k .0 in
+      let z : step base p .sheet .less ≡ step base p .sheet .more = eqb-true _ _ (halves (still (step base p .row)) (still (step base p .sheet)) row .1) in
+      omega (arith, l, z) in
+      let inner = choice (beside (step base p)) (bothDetectors d (step base p) q) (j .kind) (λ k. absurd (level k)) (λ k. halves _ _ k .0) in
       other (reach base h d s p q .there) (out p) (both _ _ (both _ _ (x .0) inner) (x .1)))
       (λ t.
       let z : supplied d (s + s + 1) s ≡ s = omega arith in
-      let k = joins-present base proper-base h d (s + s + 1) (s + 1) q p j (omega arith) (i .depth) t in
+      let k = joins-present base (suited-base .proper) h d (s + s + 1) (s + 1) q p j (omega arith) (i .depth) t in
       either _ (out p) (edge-there base h d s p q (subst (λ (n : ℕ). Joins h d n (step base p) q) z k)))
 
   stays-in : (p : ℕ) → reach base h d s p q .there ≡ true → reach base h d (s + 1) p q .there ≡ true

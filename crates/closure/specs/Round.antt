@@ -12,9 +12,10 @@ use Rattle.shape.specs.Choice.{tell, order}
 use Rattle.shape.specs.Nodes.{numberOf}
 use Rattle.steps.specs.Joins.{Joins}
 use Rattle.shape.specs.Sizes.{sheetsOf, boundary, nodesIn}
-use Rattle.steps.specs.Steps.{Table, step, across}
+use Rattle.steps.specs.Steps.{Table, step, across, namer, slotIn}
 use Rattle.window.specs.Lists.{over}
-use Rattle.window.specs.Window.{alone, isRest, namer, reach, size, sheet, supplied, present, pointed, at, place, to}
+use Rattle.window.specs.Window.{alone, isRest, reach, size, sheet, supplied, present, pointed, at, place, to}
+use Rattle.steps.specs.Suited.{Suited}
 use Rattle.window.specs.Round.{lowered, sunk, topNode, fallenNode, atTop, fallenSlot, rounded}
 use Rattle.window.specs.Formed.{markFits, isEmpty, unusedNode, wellFormed}
 use Rattle.window.specs.declared.Mark.{Mark}
@@ -25,7 +26,6 @@ use Rattle.window.specs.declared.Window.{Window}
 use Rattle.closure.specs.Lists.{all-over, choice, either, other}
 use Rattle.closure.specs.States.{rest-not-merging, rest-led}
 use Rattle.closure.specs.Sized.{Sized, nodes-over, growth-over, correction-over}
-use Rattle.closure.specs.Suited.{Suited}
 use Rattle.closure.specs.Edges.{edge, edge-there}
 use Rattle.closure.specs.Facts.{Pointing, centre, along, Fits, Slot, Facts, facts, formed, inside-at}
 use Rattle.closure.specs.After.{top-at, sunk-at, top-slot, sunk-slot}
@@ -138,8 +138,8 @@ module _ (T : Table) (S : Suited T) (w : Window) (defects : List ℕ) (f : Facts
 
   slot-fits : (g kind : ℕ) → g < size w → kind < T .kinds
       → Slot (reach T h d there' (namer T kind) (place w g) .there)
-      (getD (over (T .kinds * size w) (fallenSlot T w 0 (w .growth)) (w .growth)) (T .kinds * g + kind) 0)
-      (getD (over (T .kinds * size w) (fallenSlot T w false (w .correction)) (w .correction)) (T .kinds * g + kind) false)
+      (getD (over (T .kinds * size w) (fallenSlot T w 0 (w .growth)) (w .growth)) (slotIn (size w) kind g) 0)
+      (getD (over (T .kinds * size w) (fallenSlot T w false (w .correction)) (w .correction)) (slotIn (size w) kind g) false)
   slot-fits g kind l m =
       ⊎-elim (λ e. empty _ _ _ (top-slot T w g kind l m {A = ℕ} 0 (w .growth) e) (top-slot T w g kind l m false (w .correction) e))
       (λ e.
@@ -168,12 +168,12 @@ module _ (T : Table) (w : Window) (defects : List ℕ) where
   pub round : Suited T → wellFormed T w ≡ true → isRest (w .stage) ≡ true → wellFormed T (rounded T w defects) ≡ true
   round S e st = formed T (rounded T w defects) (rounded-facts T S w defects (facts T w e) st)
 
-  pub round-sized : T .kinds ≤ 3 → Sized w → Sized (rounded T w defects)
+  pub round-sized : Sized T w → Sized T (rounded T w defects)
   unfolding rounded
-  round-sized l s =
+  round-sized s =
       record {
-        nodes = nodes-over w s (fallenNode w defects);
-        growth = growth-over w s (T .kinds) l (fallenSlot T w 0 (w .growth));
-        correction = correction-over w s (T .kinds) l (fallenSlot T w false (w .correction));
+        nodes = nodes-over w T s (fallenNode w defects);
+        growth = growth-over w T s (fallenSlot T w 0 (w .growth));
+        correction = correction-over w T s (fallenSlot T w false (w .correction));
         measured = s .measured;
       }

@@ -15,7 +15,7 @@ use Rattle.window.specs.LawsRun.{steps-rest, steps-on, none-left}
 use Rattle.window.specs.declared.Stage.{Stage}
 use Rattle.window.specs.declared.Stage.the-variants.{Rest, ToGrow, Merging}
 use Rattle.window.specs.declared.Window.{Window}
-use Rattle.closure.specs.Suited.{Suited}
+use Rattle.steps.specs.Suited.{Suited}
 use Rattle.closure.specs.Grow.{grow}
 use Rattle.closure.specs.Merging.{merging, merging-stage}
 

@@ -6,8 +6,9 @@ use lib.Dec.{ltb, leb}
 use lib.ListN.{length, replicate}
 use Rattle.refusal.specs.Answer.{Answer, done, ended, refused, refusedAt, unless, andThen, Code, plain, placed}
 use Rattle.shape.specs.Choice.{if}
-use Rattle.shape.specs.Sizes.{detectorsOf, layerEdgesOf}
+use Rattle.shape.specs.Sizes.{detectorsOf}
 use Rattle.steps.specs.Steps.{Table}
+use Rattle.layers.specs.Layers.{layerEdges}
 use Rattle.record.specs.Records.{header, headerAt, unlessEnded, roundAt, Result, result}
 use Rattle.window.specs.Window.{isRest, maxNext}
 use Rattle.window.specs.Fresh.{freshWindow}
@@ -66,7 +67,7 @@ module _ (T : Table) (s : List ℕ) where
   unfoldable pub turnAt : Window → ℕ → Answer Turn
   turnAt w at =
       let detectors = detectorsOf (w .shape .height) (w .shape .distance) in
-      let edges = layerEdgesOf (w .shape .height) (w .shape .distance) in
+      let edges = layerEdges T (w .shape .height) (w .shape .distance) in
       andThen (roundAt s detectors at) (λ bytes next.
       andThen (roundCall T w bytes (replicate {A = ℕ} edges 0) (replicate {A = ℕ} detectors 0)) (λ r z.
       andThen (runCall T (r .window) budget) (λ ran z.
@@ -140,5 +141,5 @@ decoded T s size =
       | ended ↦ nothingWritten (placed 7 0)
       | refused e ↦ nothingWritten (plain e)
       | refusedAt e o ↦ nothingWritten (placed e o)
-      | done sh next ↦ if (leb (length (header sh)) size) (behind (header sh) (rounds T s size (freshWindow sh) next (length (header sh)))) (nothingWritten (plain 11))
+      | done sh next ↦ if (leb (length (header sh)) size) (behind (header sh) (rounds T s size (freshWindow T sh) next (length (header sh)))) (nothingWritten (plain 11))
     ]

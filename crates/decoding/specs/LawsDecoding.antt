@@ -26,7 +26,7 @@ use Rattle.window.specs.Fresh.{freshWindow}
 use Rattle.window.specs.Calls.{roundCall, runCall}
 use Rattle.window.specs.Formed.{wellFormed}
 use Rattle.window.specs.declared.Window.{Window}
-use Rattle.closure.specs.Suited.{Suited}
+use Rattle.steps.specs.Suited.{Suited}
 use Rattle.decoding.specs.Decoding.{Line, finished, turnedBack, spent, budget, Turn, turnOf, Recorded, wrote, stopped, recordWritten, recorded, turnAt, lastTest, recordTests, recordAt, stop, after, roundsFrom, rounds, Decoded, nothingWritten, behind, decoded}
 use Rattle.decoding.specs.LawsTests.{Hold, hold-pass, done-holds}
 use Rattle.decoding.specs.LawsTurn.{detectors, edges, onRan, onRound, onBytes, turn-steps, turn-done, turn-formed}
@@ -125,7 +125,7 @@ module _ (T : Table) (s : List ℕ) (w : Window) (at : ℕ) where
   turn-next : (t : Turn) (next : ℕ) → turnAt T s w at ≡ done t next → (bytes : List ℕ) × (roundAt s (detectors w) at ≡ done bytes next)
   turn-next t next e =
       let a = went (roundAt s (detectors w) at) (onBytes T w) t next (sym (turn-steps T w s at) ∙ e) in
-      let b = went (roundCall T w (a .value) (replicate {A = ℕ} (edges w) 0) (replicate {A = ℕ} (detectors w) 0)) (onRound T w (a .next)) t next (a .after) in
+      let b = went (roundCall T w (a .value) (replicate {A = ℕ} (edges T w) 0) (replicate {A = ℕ} (detectors w) 0)) (onRound T w (a .next)) t next (a .after) in
       let d = went (runCall T (b .value .window) budget) (onRan T w (b .value) (a .next)) t next (b .after) in
       let k : a .next ≡ next = cc (d .after) in
       (a .value, a .before ∙ ap (λ (m : ℕ). done (a .value) m) k)
@@ -240,7 +240,7 @@ onHeader T s size a =
       | ended ↦ nothingWritten (placed 7 0)
       | refused e ↦ nothingWritten (plain e)
       | refusedAt e o ↦ nothingWritten (placed e o)
-      | done sh next ↦ if (leb (length (header sh)) size) (behind (header sh) (rounds T s size (freshWindow sh) next (length (header sh)))) (nothingWritten (plain 11))
+      | done sh next ↦ if (leb (length (header sh)) size) (behind (header sh) (rounds T s size (freshWindow T sh) next (length (header sh)))) (nothingWritten (plain 11))
     ]
 
 module _ (T : Table) (s : List ℕ) (size : ℕ) where
@@ -255,5 +255,5 @@ module _ (T : Table) (s : List ℕ) (size : ℕ) where
     pub decoded-full : leb (length (header sh)) size ≡ false → decoded T s size ≡ nothingWritten (plain 11)
     decoded-full l = by-header ∙ ap (onHeader T s size) e ∙ if-false _ _ _ l
 
-    pub decoded-on : leb (length (header sh)) size ≡ true → decoded T s size ≡ behind (header sh) (rounds T s size (freshWindow sh) next (length (header sh)))
+    pub decoded-on : leb (length (header sh)) size ≡ true → decoded T s size ≡ behind (header sh) (rounds T s size (freshWindow T sh) next (length (header sh)))
     decoded-on l = by-header ∙ ap (onHeader T s size) e ∙ if-true _ _ _ l

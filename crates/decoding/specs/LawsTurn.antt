@@ -8,9 +8,9 @@ use lib.ListN.{length, getD, replicate, length-replicate}
 use Rattle.refusal.specs.Answer.{Answer, done, andThen}
 use Rattle.refusal.specs.Done.{goes-on}
 use Rattle.list.specs.Sheet.{areBits}
-use Rattle.layers.specs.Layer.{edgeOf}
+use Rattle.layers.specs.Layers.{edgeOf, layerEdges}
 use Rattle.shape.specs.Nodes.{indexOf}
-use Rattle.shape.specs.Sizes.{sheetsOf, detectorsOf, layerEdgesOf}
+use Rattle.shape.specs.Sizes.{sheetsOf, detectorsOf}
 use Rattle.steps.specs.Steps.{Table}
 use Rattle.record.specs.Records.{roundAt}
 use Rattle.window.specs.Lists.{byPlace, bit}
@@ -24,18 +24,17 @@ use Rattle.window.specs.declared.Ran.{Ran}
 use Rattle.window.specs.declared.Window.{Window}
 use Rattle.closure.specs.Round.{round}
 use Rattle.closure.specs.Run.{run}
-use Rattle.closure.specs.Suited.{Suited}
+use Rattle.steps.specs.Suited.{Suited}
 use Rattle.decoding.specs.Decoding.{budget, Turn, turnOf, turnAt}
 use Rattle.decoding.specs.LawsTests.{hold-pass}
 
 -- THE SIZES of a sheet and of a layer
 
-module _ (w : Window) where
-  abbrev pub detectors : ℕ
-  detectors = detectorsOf (w .shape .height) (w .shape .distance)
+abbrev pub detectors : Window → ℕ
+detectors w = detectorsOf (w .shape .height) (w .shape .distance)
 
-  abbrev pub edges : ℕ
-  edges = layerEdgesOf (w .shape .height) (w .shape .distance)
+abbrev pub edges : Table → Window → ℕ
+edges T w = layerEdges T (w .shape .height) (w .shape .distance)
 
 -- WHAT LEAVES has its size, and each byte is 0 or 1
 
@@ -52,14 +51,14 @@ module _ (n : ℕ) (xs : List ℕ) (b : Bits n xs) where
   bits-fine = ap areBits (b .bytes) ∙ bits-by (b .rule) n
 
 module _ (T : Table) (w : Window) where
-  committed-by : Bits (edges w) (committedEdges T w)
+  committed-by : Bits (edges T w) (committedEdges T w)
   unfolding committedEdges
   committed-by =
       let h = w .shape .height in
       let d = w .shape .distance in
-      record { rule = λ i. getD (w .correction) (edgeSlot T h d (sheetsOf d - 1) (edgeOf h d i)) false; bytes = refl }
+      record { rule = λ i. getD (w .correction) (edgeSlot h d (sheetsOf d - 1) (edgeOf T h d i)) false; bytes = refl }
 
-  pub committed-long : length (committedEdges T w) ≡ edges w
+  pub committed-long : length (committedEdges T w) ≡ edges T w
   committed-long = bits-long _ _ committed-by
 
   pub committed-bits : areBits (committedEdges T w) ≡ true
@@ -90,7 +89,7 @@ module _ (T : Table) (w : Window) where
   onRound next r z = andThen (runCall T (r .window) budget) (onRan r next)
 
   abbrev pub onBytes : List ℕ → ℕ → Answer Turn
-  onBytes bytes next = andThen (roundCall T w bytes (replicate {A = ℕ} (edges w) 0) (replicate {A = ℕ} (detectors w) 0)) (onRound next)
+  onBytes bytes next = andThen (roundCall T w bytes (replicate {A = ℕ} (edges T w) 0) (replicate {A = ℕ} (detectors w) 0)) (onRound next)
 
   pub turn-steps : (s : List ℕ) (at : ℕ) → turnAt T s w at ≡ andThen (roundAt s (detectors w) at) onBytes
   unfolding turnAt
@@ -99,11 +98,11 @@ module _ (T : Table) (w : Window) where
   module _ (S : Suited T) (formed : wellFormed T w ≡ true) (rest : isRest (w .stage) ≡ true) (next : w .next < maxNext) (bytes : List ℕ)
       (long : length bytes ≡ detectors w) (bits : areBits bytes ≡ true) where
     -- no call refuses it
-    round-accepted : roundCall T w bytes (replicate {A = ℕ} (edges w) 0) (replicate {A = ℕ} (detectors w) 0) ≡ done (receiving T w bytes) 0
+    round-accepted : roundCall T w bytes (replicate {A = ℕ} (edges T w) 0) (replicate {A = ℕ} (detectors w) 0) ≡ done (receiving T w bytes) 0
     unfolding roundCall
     round-accepted =
-        hold-pass (roundTests T w bytes (length (replicate {A = ℕ} (edges w) 0)) (length (replicate {A = ℕ} (detectors w) 0)))
-        (formed, (rest, (lt-ltb _ _ next, (eq-eqb _ _ long, (eq-eqb _ _ (length-replicate {A = ℕ} (edges w) 0), (eq-eqb _ _ (length-replicate {A = ℕ} (detectors w) 0), (bits, tt)))))))
+        hold-pass (roundTests T w bytes (length (replicate {A = ℕ} (edges T w) 0)) (length (replicate {A = ℕ} (detectors w) 0)))
+        (formed, (rest, (lt-ltb _ _ next, (eq-eqb _ _ long, (eq-eqb _ _ (length-replicate {A = ℕ} (edges T w) 0), (eq-eqb _ _ (length-replicate {A = ℕ} (detectors w) 0), (bits, tt)))))))
         Round (done (receiving T w bytes) 0)
 
     to-grow : not (isRest (rounded T w bytes .stage)) ≡ true

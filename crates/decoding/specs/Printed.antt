@@ -6,9 +6,10 @@ use mathlib.Core.List.{List, [], _∷_}
 use Rattle.number.specs.Number as number
 use Rattle.list.specs.Sheet as list
 use Rattle.shape.specs.Nodes as nodes
+use Rattle.steps.specs.Ranks as ranks
 use Rattle.steps.specs.Steps as steps
 use Rattle.steps.specs.Steps.{base}
-use Rattle.layers.specs.Layer as layer
+use Rattle.layers.specs.Layers as layers
 use Rattle.record.specs.Records as records
 use Rattle.trip.specs.Printed as stream
 use Rattle.window.specs.Lists as lists
@@ -25,7 +26,7 @@ use Rattle.decoding.specs.Decoding.{Decoded, finished, decoded, roundsFr
 
 -- all the rules, for `unfolding`
 unfoldable opened : ℕ
-unfolding list.ones list.skips list.listed list.entriesAt list.listAt list.areBits number.written number.numberAt number.groups number.groupAt nodes.indexOf nodes.placeAt nodes.numberOf nodes.placeOf steps.base steps.across steps.joined steps.near steps.slot layer.edgeOf records.header records.headerFrom records.headerAt records.result lists.from lists.byPlace lists.every lists.any lists.all window.reach window.naming fresh.freshWindow formed.pointerFits formed.nodeFits formed.slotFitsAt formed.wellFormed round.committedEdges round.escapedDefects round.loweredNumber round.topNode round.fallenNode round.fallenSlot round.rounded grow.grownSlot grow.grownNode grow.grown merging.sees merging.syncedActive merging.arrivals merging.scan merging.floods merging.stepped merging.seen merging.stepAt merging.flippedSlot merging.merged run.stepsFrom run.ran calls.roundCall calls.runCall turnAt recordAt roundsFrom decoded
+unfolding list.ones list.skips list.listed list.entriesAt list.listAt list.areBits number.written number.numberAt number.groups number.groupAt nodes.indexOf nodes.placeAt nodes.numberOf nodes.placeOf steps.base steps.across steps.joined steps.near steps.slot steps.naming ranks.rank ranks.pick layers.spans layers.edgeOf layers.layerEdges records.header records.headerFrom records.headerAt records.result lists.from lists.byPlace lists.every lists.any lists.all window.reach fresh.freshWindow formed.pointerFits formed.nodeFits formed.slotFitsAt formed.wellFormed round.committedEdges round.escapedDefects round.loweredNumber round.topNode round.fallenNode round.fallenSlot round.rounded grow.grownSlot grow.grownNode grow.grown merging.sees merging.syncedActive merging.arrivals merging.scan merging.floods merging.stepped merging.seen merging.stepAt merging.flippedSlot merging.merged run.stepsFrom run.ran calls.roundCall calls.runCall turnAt recordAt roundsFrom decoded
 opened = 0
 
 -- into a buffer with room enough
@@ -62,7 +63,7 @@ abbrev nextRound : Window → List ℕ → Window
 nextRound w bytes = run.ran base 65536 (round.rounded base w bytes) .window
 
 unfoldable pub third : Window
-third = round.rounded base (nextRound (nextRound (fresh.freshWindow (record { height = 1; distance = 3 })) (1 ∷ 0 ∷ [])) (0 ∷ 0 ∷ [])) (0 ∷ 0 ∷ [])
+third = round.rounded base (nextRound (nextRound (fresh.freshWindow base (record { height = 1; distance = 3 })) (1 ∷ 0 ∷ [])) (0 ∷ 0 ∷ [])) (0 ∷ 0 ∷ [])
 
 pub record Budgets : Type 0 where
   pub rest : run.ran base 4 third .rest ≡ true

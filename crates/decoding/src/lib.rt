@@ -15,11 +15,6 @@ pub enum Record {
     Stopped(Ending),
 }
 
-pub struct RecordGiven {
-    pub answer: Record,
-    pub window: Window,
-}
-
 // Round after round: how it ended, with which window, at which offset of the input, and the offset behind what was written.
 pub struct RoundsGiven {
     pub ending: Ending,

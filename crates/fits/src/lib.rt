@@ -1,17 +1,19 @@
-// Whether one node and its three slots are well-formed.
+// Whether one node and its slots are well-formed.
 use shape::Place;
 use shape::Shape;
+use steps::KINDS;
 use window::Mark;
 use window::Node;
 use window::Stage;
 ghost use mathlib.Core.Path.{_≡_};
-ghost use mathlib.Core.Bool.{_&&_};
-ghost use Prim.Native.Nat.{_+_, _*_, _≤_};
-ghost use Rattle.shape.specs.Sizes.{sheetsOf, nodesIn};
-ghost use Rattle.steps.specs.Steps.{base};
+ghost use Prim.Native.Nat.{_+_, _*_, _≤_, _<_};
+ghost use lib.ListN.{length};
+ghost use Rattle.shape.specs.Sizes.{sheetsOf, nodesIn, maxNodes};
+ghost use Rattle.steps.specs.Steps.{base, namer};
 ghost use Rattle.walk.specs.Walk.{Stands};
+ghost use Rattle.window.specs.Lists.{every};
 ghost use Rattle.window.specs.Window.{reach};
-ghost use Rattle.window.specs.Formed.{isFresh, markFits, pointerFits, nodeFits, slotFits};
+ghost use Rattle.window.specs.Formed.{isFresh, markFits, pointerFits, nodeFits, slotFits, slotBy};
 
 // Marks are numbers of nodes, reset only in stage merging.
 fn mark_fits(stage: Stage, marks: usize, mark: Mark) -> bool
@@ -31,16 +33,13 @@ pub fn numbers(shape: Shape) -> usize
 }
 
 // Pointers go along edges between so many sheets.
-fn pointer_fits(shape: Shape, sheets: usize, place: Place, g: usize, pointer: u8) -> bool
-    requires { ⌜ Stands (shape .height) (shape .distance) place g ⌝ }
-    requires { ⌜ sheets ≤ sheetsOf (shape .distance) + 1 ⌝ }
+fn pointer_fits(shape: Shape, sheets: usize, place: Place, pointer: u8) -> bool
     ensures { λ r. ⌜ r ≡ pointerFits base (shape .height) (shape .distance) sheets place pointer ⌝ }
 {
     if pointer == 0 {
         return true;
     }
-    let way = walk::reach(shape, sheets, pointer, place, g);
-    way.there
+    steps::joined(shape, sheets, pointer, place)
 }
 
 // A node in its fresh state, its own number given.
@@ -67,7 +66,6 @@ pub fn node_fits(
 ) -> bool
     requires { ⌜ Stands (shape .height) (shape .distance) place g ⌝ }
     requires { ⌜ marks ≡ nodesIn (shape .height) (shape .distance) (sheetsOf (shape .distance) + 1) ⌝ }
-    requires { ⌜ led ≤ sheetsOf (shape .distance) + 1 ⌝ }
     ensures { λ r. ⌜ r ≡ nodeFits base stage (shape .height) (shape .distance) there led place node ⌝ }
 {
     if there <= place.depth as usize {
@@ -80,53 +78,52 @@ pub fn node_fits(
     if (node.pointer == 0) & !node.defect {
         return true;
     }
-    if !pointer_fits(shape, led, place, g, node.pointer) {
+    if !pointer_fits(shape, led, place, node.pointer) {
         return false;
     }
     !(shape::is_boundary(shape, place.column) & node.defect)
 }
 
-// Growth is at most 2, and nothing stands in a slot without an edge.
+// Growth is at most 2, and nothing stands in a slot without an edge: the slot of the edge of a kind that the node at a place names. Most slots are
+// empty: no step is taken for them.
 fn slot_fits(
     shape: Shape,
     sheets: usize,
     place: Place,
-    g: usize,
-    pointer: u8,
+    kind: u8,
     halves: u8,
     correction: bool,
 ) -> bool
-    requires { ⌜ Stands (shape .height) (shape .distance) place g ⌝ }
-    requires { ⌜ sheets ≤ sheetsOf (shape .distance) + 1 ⌝ }
-    ensures { λ r. ⌜ r ≡ slotFits (reach base (shape .height) (shape .distance) sheets pointer place .there) halves correction ⌝ }
+    ensures { λ r. ⌜ r ≡ slotFits (reach base (shape .height) (shape .distance) sheets (namer base kind) place .there) halves correction ⌝ }
 {
     if (halves == 0) & !correction {
         return true;
     }
-    let way = walk::reach(shape, sheets, pointer, place, g);
-    (halves <= 2) & way.there
+    (halves <= 2) & steps::joined(shape, sheets, steps::namer(kind), place)
 }
 
-// The three slots of a node, E, S and U: their halves, and whether they flip. Most are empty: no step is taken for them.
-pub fn slots_fit(
+// The slots of node g, one a kind, of a window of n nodes.
+pub fn slots_fit<'a>(
     shape: Shape,
     sheets: usize,
+    n: usize,
     place: Place,
     g: usize,
-    e: u8,
-    s: u8,
-    u: u8,
-    fe: bool,
-    fs: bool,
-    fu: bool,
+    growth: &'a [u8],
+    correction: &'a [bool],
 ) -> bool
-    requires { ⌜ Stands (shape .height) (shape .distance) place g ⌝ }
-    requires { ⌜ sheets ≤ sheetsOf (shape .distance) + 1 ⌝ }
-    ensures { λ r. ⌜ r ≡ slotFits (reach base (shape .height) (shape .distance) sheets 3 place .there) e fe && slotFits (reach base (shape .height) (shape .distance) sheets 4 place .there) s fs && slotFits (reach base (shape .height) (shape .distance) sheets 6 place .there) u fu ⌝ }
+    requires { ⌜ (g < n) × (n ≤ maxNodes) ⌝ }
+    requires { ⌜ (3 * n ≤ length (now growth)) × (3 * n ≤ length (now correction)) ⌝ }
+    ensures { λ r. ⌜ r ≡ every 3 (slotBy base (shape .height) (shape .distance) sheets n place g (now (growth .entry)) (now (correction .entry))) ⌝ }
 {
-    if (((e == 0) & (s == 0)) & (u == 0)) & ((!fe & !fs) & !fu) {
-        return true;
+    let mut kind: u8 = 0;
+    let mut e = g;
+    while kind < KINDS {
+        if !slot_fits(shape, sheets, place, kind, growth[e], correction[e]) {
+            return false;
+        }
+        e += n;
+        kind += 1;
     }
-    (slot_fits(shape, sheets, place, g, 3, e, fe) & slot_fits(shape, sheets, place, g, 4, s, fs))
-        & slot_fits(shape, sheets, place, g, 6, u, fu)
+    true
 }

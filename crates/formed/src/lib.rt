@@ -29,19 +29,7 @@ fn used_fit(w: Window) -> bool
         if !fits::node_fits(shape, stage, marks, there, led, place, g, node) {
             return false;
         }
-        let e = 3 * g;
-        if !fits::slots_fit(
-            shape,
-            there,
-            place,
-            g,
-            w.growth[e],
-            w.growth[e + 1],
-            w.growth[e + 2],
-            w.correction[e],
-            w.correction[e + 1],
-            w.correction[e + 2],
-        ) {
+        if !fits::slots_fit(shape, there, n, place, g, &w.growth, &w.correction) {
             return false;
         }
         place = walk::next_place(shape, place);

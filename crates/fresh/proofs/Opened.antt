@@ -10,8 +10,9 @@ use Rattle.refusal.specs.Done.{took}
 use Rattle.refusal.specs.declared.Refusal.{Refusal}
 use Rattle.shape.specs.Ranges.{both}
 use Rattle.shape.specs.Sizes.{shapeAnswer, heightOk, distanceOk, shapeOf, inRange, sheetsOf, nodesOf, maxNodes, maxDetectors}
+use Rattle.steps.specs.Steps.{base}
 use Rattle.window.specs.Window.{alone, unused, maxSlots}
-use Rattle.window.specs.Fresh.{freshWindow, noWindow}
+use Rattle.window.specs.Fresh.{freshWindow, noWindow, slots-base}
 use Rattle.window.specs.Calls.{Answered, given, leaves, freshCall}
 use Rattle.shape.specs.Nodes.{numberOf, placeAt}
 use Rattle.shape.specs.declared.Place.{Place}
@@ -29,19 +30,19 @@ same-shape : (a b : Shape) → _≡_ {A = Answer Shape} (done a 0) (done b 0) �
 same-shape a b e = cc
 
 freshAs : Answer Shape → Answered (Unit {0})
-freshAs a = leaves (andThen a (λ sh n. done (freshWindow sh) n)) itself noWindow
+freshAs a = leaves (andThen a (λ sh n. done (freshWindow base sh) n)) itself noWindow
 
 module _ (h d : ℕ) (r : Shaped) (made : shapeAnswer r ≡ shapeOf h d) where
-  pub fresh-refused : (f : Refusal) → r ≡ shaped.Refused f → given (turned f) noWindow ≡ leaves (freshCall h d) itself noWindow
+  pub fresh-refused : (f : Refusal) → r ≡ shaped.Refused f → given (turned f) noWindow ≡ leaves (freshCall base h d) itself noWindow
   unfolding freshCall freshAs
   fresh-refused f z =
       let e = ap shapeAnswer (sym z) ∙ made in
-      sym (ap freshAs (sym e) ∙ ap (λ (a : Answer Window). leaves a itself noWindow) (turned-as {B = Window} f (λ sh n. done (freshWindow sh) n)) ∙ rw (
+      sym (ap freshAs (sym e) ∙ ap (λ (a : Answer Window). leaves a itself noWindow) (turned-as {B = Window} f (λ sh n. done (freshWindow base sh) n)) ∙ rw (
         turned-passed Window f,
         value-not (turned {A = Window} f) itself noWindow (turned-not Window f),
       ))
 
-  pub fresh-done : (sh : Shape) (v : Window) → r ≡ shaped.Shape sh → v ≡ freshWindow sh → given (done tt 0) v ≡ leaves (freshCall h d) itself noWindow
+  pub fresh-done : (sh : Shape) (v : Window) → r ≡ shaped.Shape sh → v ≡ freshWindow base sh → given (done tt 0) v ≡ leaves (freshCall base h d) itself noWindow
   unfolding freshCall freshAs
   fresh-done sh v z y = ap (λ (x : Window). given (done tt 0) x) y ∙ sym (ap freshAs (sym made ∙ ap shapeAnswer z))
 
@@ -78,6 +79,6 @@ unfolding noWindow
 none-by x e = ap (λ (n : Node). opened (record { height = 0; distance = 0 }) 0 (replicate maxNodes n)) e
 
 pub fresh-by : (sh : Shape) (g s : ℕ) (nodes : List Node) → g ≡ nodesOf (sh .height) (sh .distance) → s ≡ sheetsOf (sh .distance) → nodes ≡ over g (numbering sh) (replicate maxNodes unused)
-    → opened sh s nodes ≡ freshWindow sh
+    → opened sh s nodes ≡ freshWindow base sh
 unfolding freshWindow
-fresh-by sh g s nodes e f z = rw (z, e, f)
+fresh-by sh g s nodes e f z = rw (z, e, f, slots-base)

@@ -13,6 +13,7 @@ ghost use mathlib.Core.Path.{_≡_};
 ghost use mathlib.Core.Bool.{true};
 ghost use Rattle.refusal.specs.Answer.{itself};
 ghost use Rattle.shape.specs.Sizes.{inRange};
+ghost use Rattle.steps.specs.Steps.{base};
 ghost use Rattle.window.specs.Fresh.{freshWindow, noWindow};
 ghost use Rattle.window.specs.Calls.{callAnswer, given, leaves, freshCall};
 
@@ -36,7 +37,7 @@ fn no_window() -> Window
 
 fn fresh_window(shape: Shape) -> Window
     requires { ⌜ inRange (shape .height) (shape .distance) ≡ true ⌝ }
-    ensures { λ r. ⌜ r ≡ freshWindow shape ⌝ }
+    ensures { λ r. ⌜ r ≡ freshWindow base shape ⌝ }
 {
     let n = shape::nodes(shape);
     let mut nodes = [window::alone(0, false); MAX_NODES];
@@ -64,7 +65,7 @@ fn fresh_window(shape: Shape) -> Window
 
 // The fresh window of a height and a distance.
 pub fn fresh(height: u32, distance: u32) -> Given
-    ensures { λ r. ⌜ given (callAnswer (r .answer)) (r .window) ≡ leaves (freshCall height distance) itself noWindow ⌝ }
+    ensures { λ r. ⌜ given (callAnswer (r .answer)) (r .window) ≡ leaves (freshCall base height distance) itself noWindow ⌝ }
 {
     let shaped = shape::shape_of(height, distance);
     match shaped {

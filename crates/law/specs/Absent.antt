@@ -1,5 +1,5 @@
 -- ABSENT ROUNDS: nothing stands there in a well-formed window, and what leaves with them is 0. Assumes nothing.
-use Prim.Native.Nat.{ℕ, _+_, _-_, _*_, _<_}
+use Prim.Native.Nat.{ℕ, _+_, _-_, _<_}
 use native.Mathlib.Omega.{arith}
 use mathlib.Core.Path.{_≡_, refl, sym, _∙_, ap, subst}
 use mathlib.Core.Bool.{Bool, false}
@@ -12,14 +12,14 @@ use Rattle.shape.specs.Choice.{order}
 use Rattle.shape.specs.LawsIndex.{place-index}
 use Rattle.shape.specs.Nodes.{indexOf}
 use Rattle.shape.specs.Ranges.{halves}
-use Rattle.shape.specs.Sizes.{sheetsOf, layerEdgesOf, detectorsOf}
+use Rattle.shape.specs.Sizes.{sheetsOf, detectorsOf}
 use Rattle.shape.specs.declared.Place.{Place}
-use Rattle.steps.specs.Steps.{Table}
-use Rattle.layers.specs.Layer.{edgeOf}
-use Rattle.layers.specs.LawsEdge.{nodeOf}
+use Rattle.steps.specs.Steps.{Table, namer, slotIn}
+use Rattle.layers.specs.Layers.{edgeOf, layerEdges, nodeOf}
+use Rattle.law.specs.Layered.{layered}
 use Rattle.window.specs.Lists.{byPlace, bit}
 use Rattle.window.specs.LawsLists.{getD-by, length-by}
-use Rattle.window.specs.Window.{namer, reach, present, at, place}
+use Rattle.window.specs.Window.{reach, size, present, at, place}
 use Rattle.window.specs.Formed.{isEmpty}
 use Rattle.window.specs.Round.{edgeSlot, detectorAt, committedEdges, escapedDefects, rounded}
 use Rattle.window.specs.LawsRound.{detector-inside}
@@ -27,12 +27,11 @@ use Rattle.window.specs.declared.Window.{Window}
 use Rattle.closure.specs.Lists.{choice}
 use Rattle.closure.specs.Edges.{edge-absent}
 use Rattle.closure.specs.Facts.{Facts, index-within}
-use Rattle.closure.specs.Suited.{Suited}
+use Rattle.steps.specs.Suited.{Suited}
 use Rattle.law.specs.Law.{Played, NothingLeft, AbsentEmpty, last, receipt}
 use Rattle.law.specs.Rules.{taken}
 use Rattle.law.specs.Nodes.{defects as same-defects}
 use Rattle.law.specs.Receipts.{old-receipt, new-receipt, no-receipt, counts}
-use Rattle.law.specs.Layered.{Layered}
 use Rattle.law.specs.LayerEdges.{named-inside}
 
 -- no bit of a list is set
@@ -42,7 +41,7 @@ none-set f n e i =
     (λ l. List·getD-eq-default (byPlace n (λ k. bit (f k))) 0 (let x = length-by (λ k. bit (f k)) n in omega arith))
     (order i n)
 
-module _ (T : Table) (S : Suited T) (L : Layered T) (w : Window) (f : Facts T w) where
+module _ (T : Table) (S : Suited T) (w : Window) (f : Facts T w) where
   abbrev h : ℕ
   h = w .shape .height
 
@@ -53,26 +52,26 @@ module _ (T : Table) (S : Suited T) (L : Layered T) (w : Window) (f : Facts T w)
   s = sheetsOf d
 
   -- no correction bit where there is no edge
-  module _ (i : ℕ) (l : i < layerEdgesOf h d) where
+  module _ (i : ℕ) (l : i < layerEdges T h d) where
     abbrev kind : ℕ
-    kind = edgeOf h d i .kind
+    kind = edgeOf T h d i .kind
 
-    pub unset : (j : ℕ) → j < s → reach T h d (present w) (namer T kind) (nodeOf j (edgeOf h d i)) .there ≡ false → getD (w .correction) (edgeSlot T h d j (edgeOf h d i)) false ≡ false
+    pub unset : (j : ℕ) → j < s → reach T h d (present w) (namer T kind) (nodeOf j (edgeOf T h d i)) .there ≡ false → getD (w .correction) (edgeSlot h d j (edgeOf T h d i)) false ≡ false
     unset j m e =
-        let q = nodeOf j (edgeOf h d i) in
-        let inside = named-inside T S L h d i (f .ranged) l s j m in
+        let q = nodeOf j (edgeOf T h d i) in
+        let inside = named-inside T S h d i (f .ranged) l s j m in
         let x : place w (indexOf h d q) ≡ q = place-index h d s q inside in
-        let slot = f .slots (indexOf h d q) kind (index-within h d (f .ranged) q inside) (L .kind h d i (f .ranged) l) .used in
+        let slot = f .slots (indexOf h d q) kind (index-within h d (f .ranged) q inside) (layered T S .kind h d i (f .ranged) l) .used in
         choice _ _ slot
         (λ t. absurd (undone (sym (sym (ap (λ (c : Place). reach T h d (present w) (namer T kind) c .there) x) ∙ t) ∙ e)))
-        (λ t. not-true _ (halves (isEmpty (getD (w .growth) (T .kinds * indexOf h d q + kind) 0)) _ t .1))
+        (λ t. not-true _ (halves (isEmpty (getD (w .growth) (slotIn (size w) kind (indexOf h d q)) 0)) _ t .1))
 
   -- the bottom sheet is absent
   module _ (low : present w < s) where
-    bottom-unset : (i : ℕ) → i < layerEdgesOf h d → getD (w .correction) (edgeSlot T h d (s - 1) (edgeOf h d i)) false ≡ false
+    bottom-unset : (i : ℕ) → i < layerEdges T h d → getD (w .correction) (edgeSlot h d (s - 1) (edgeOf T h d i)) false ≡ false
     bottom-unset i l =
         let m : s - 1 < s = omega arith in
-        unset i l (s - 1) m (edge-absent T h d (present w) (namer T (edgeOf h d i .kind)) (nodeOf (s - 1) (edgeOf h d i)) (omega arith))
+        unset i l (s - 1) m (edge-absent T h d (present w) (namer T (edgeOf T h d i .kind)) (nodeOf (s - 1) (edgeOf T h d i)) (omega arith))
 
     bottom-clear : (i : ℕ) → i < detectorsOf h d → at w (indexOf h d (detectorAt d (s - 1) i)) .defect ≡ false
     bottom-clear i l =
@@ -84,12 +83,12 @@ module _ (T : Table) (S : Suited T) (L : Layered T) (w : Window) (f : Facts T w)
     pub nothing-leaves : (defects : List ℕ) → NothingLeft (record { defects = defects; edges = committedEdges T w; escapes = escapedDefects w })
     unfolding committedEdges escapedDefects
     nothing-leaves defects i = (
-      none-set (λ k. getD (w .correction) (edgeSlot T h d (s - 1) (edgeOf h d k)) false) (layerEdgesOf h d) bottom-unset i,
+      none-set (λ k. getD (w .correction) (edgeSlot h d (s - 1) (edgeOf T h d k)) false) (layerEdges T h d) bottom-unset i,
       none-set (λ k. at w (indexOf h d (detectorAt d (s - 1) k)) .defect) (detectorsOf h d) bottom-clear i,
     )
 
 -- one more round: as many have left as were supplied
-module _ (T : Table) (S : Suited T) (L : Layered T) (p : Played) (defects : List ℕ) (f : Facts T (p .window)) (next : p .window .next ≡ last p + 1) where
+module _ (T : Table) (S : Suited T) (p : Played) (defects : List ℕ) (f : Facts T (p .window)) (next : p .window .next ≡ last p + 1) where
   abbrev after : Played
   after = taken T p defects
 
@@ -102,6 +101,6 @@ module _ (T : Table) (S : Suited T) (L : Layered T) (p : Played) (defects : List
       ⊎-elim (λ m. subst NothingLeft (sym (old-receipt T p defects n m)) (before n l))
       (λ m. ⊎-elim (λ k. subst NothingLeft (sym (no-receipt after n (let c = counts T p defects in omega arith))) (λ i. (refl, refl)))
       (λ k. let e : n ≡ count = omega arith in
-      subst NothingLeft (sym (ap (λ (x : ℕ). receipt after x) e ∙ new-receipt T p defects)) (nothing-leaves T S L (p .window) f (omega arith) defects))
+      subst NothingLeft (sym (ap (λ (x : ℕ). receipt after x) e ∙ new-receipt T p defects)) (nothing-leaves T S (p .window) f (omega arith) defects))
       (order count n))
       (order n count)

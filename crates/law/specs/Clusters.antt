@@ -15,7 +15,7 @@ use Rattle.window.specs.Merging.{merged}
 use Rattle.window.specs.declared.Stage.{Stage}
 use Rattle.window.specs.declared.Stage.the-variants.{Rest, ToGrow, Merging}
 use Rattle.window.specs.declared.Window.{Window}
-use Rattle.closure.specs.Suited.{Suited}
+use Rattle.steps.specs.Suited.{Suited}
 use Rattle.closure.specs.Merging.{merging-stage}
 use Rattle.closure.specs.Closure.{Kept}
 use Rattle.law.specs.Law.{Played, Rested, start}
@@ -65,7 +65,7 @@ settled-measured T w bytes Rest x = x
 settled-measured T w bytes ToGrow x = fallen-measured T w bytes x
 settled-measured T w bytes Merging x = x
 
-pub clustered-fresh : (T : Table) (sh : Shape) → Clustered T (start (freshWindow sh))
+pub clustered-fresh : (T : Table) (sh : Shape) → Clustered T (start (freshWindow T sh))
 unfolding freshWindow
 clustered-fresh T sh = fresh-calm T sh
 

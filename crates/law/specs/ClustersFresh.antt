@@ -7,10 +7,9 @@ use borrow.Author.Tests.{eqb-true}
 use Rattle.shape.specs.Ranges.{halves}
 use Rattle.steps.specs.Steps.{Table}
 use Rattle.shape.specs.declared.Shape.{Shape}
-use Rattle.window.specs.Fresh.{freshWindow}
-use Rattle.window.specs.LawsLists.{and-no}
-use Rattle.window.specs.Window.{to, maxSlots}
-use Rattle.window.specs.LawsLists.{getD-same}
+use Rattle.window.specs.Fresh.{slotsOf, freshWindow}
+use Rattle.window.specs.LawsLists.{and-no, getD-same}
+use Rattle.window.specs.Window.{to}
 use Rattle.closure.specs.After.{fresh-at}
 use Rattle.law.specs.Nodes.{actives, defects, pointers, marks}
 use Rattle.law.specs.Graph.{graph, view, Connected, same, over, Calm, here}
@@ -20,20 +19,20 @@ not-two : _≡_ {A = ℕ} 0 2 → ⊥
 not-two e = omega arith
 
 module _ (T : Table) (sh : Shape) where
-  not-open : (v p : ℕ) → graph T (freshWindow sh) .opn v p ≡ true → ⊥
+  not-open : (v p : ℕ) → graph T (freshWindow T sh) .opn v p ≡ true → ⊥
   unfolding freshWindow
   not-open v p e =
-      let way = to (freshWindow sh) T p v in
-      not-two (sym (getD-same {A = ℕ} 0 maxSlots (way .slot)) ∙ eqb-true _ _ (halves (way .there) _ e .1))
+      let way = to (freshWindow T sh) T p v in
+      not-two (sym (getD-same {A = ℕ} 0 (slotsOf T) (way .slot)) ∙ eqb-true _ _ (halves (way .there) _ e .1))
 
-  only-self : (v u : ℕ) → Connected (graph T (freshWindow sh)) v u → u ≡ v
+  only-self : (v u : ℕ) → Connected (graph T (freshWindow T sh)) v u → u ≡ v
   only-self v u same = refl
   only-self v u (over {v = a} {p = p} e c) = absurd (not-open v p e)
 
-  pub fresh-calm : Calm (graph T (freshWindow sh)) (view (freshWindow sh))
+  pub fresh-calm : Calm (graph T (freshWindow T sh)) (view (freshWindow T sh))
   unfolding freshWindow
   fresh-calm v l =
-      let a = fresh-at sh v l in
+      let a = fresh-at T sh v l in
       let centre = pointers a in
       record {
         root = v;
@@ -47,5 +46,5 @@ module _ (T : Table) (sh : Shape) where
         across = λ p e. absurd (not-open v p e);
         opn = λ n. absurd (n centre);
         defect = λ e. centre;
-        active = actives a ∙ sym (and-no (graph T (freshWindow sh) .det v) _ (defects a));
+        active = actives a ∙ sym (and-no (graph T (freshWindow T sh) .det v) _ (defects a));
       }

@@ -9,11 +9,11 @@ use lib.ListN.{getD}
 use Rattle.refusal.specs.Laws.{undone}
 use Rattle.shape.specs.Choice.{if-true, if-false, tell, order}
 use Rattle.shape.specs.Ranges.{halves, both}
-use Rattle.steps.specs.Steps.{Table}
+use Rattle.steps.specs.Steps.{Table, namer}
 use Rattle.window.specs.Grow.{gains, cut, grownSlot, grown}
 use Rattle.window.specs.Lists.{bit}
 use Rattle.window.specs.LawsLists.{over-at, over-later}
-use Rattle.window.specs.Window.{namer, size, at, to}
+use Rattle.window.specs.Window.{size, at, to}
 use Rattle.window.specs.declared.Mark.the-variants.{Root}
 use Rattle.window.specs.declared.Node.{Node}
 use Rattle.window.specs.declared.Way.{Way}
@@ -40,8 +40,8 @@ module _ (T : Table) (w : Window) where
   stays-full : (e : ℕ) → getD (w .growth) e 0 ≡ 2 → getD (grown T w .growth) e 0 ≡ 2
   unfolding grown grownSlot
   stays-full e f =
-      let r = to w T (namer T (e % T .kinds)) (e / T .kinds) in
-      ⊎-elim (λ l. over-at (grownSlot T w) (w .growth) (T .kinds * size w) e 0 l ∙ full r (getD (w .growth) e 0) (at w (e / T .kinds)) (at w (r .node)) f)
+      let r = to w T (namer T (e / size w)) (e % size w) in
+      ⊎-elim (λ l. over-at (grownSlot T w) (w .growth) (T .kinds * size w) e 0 l ∙ full r (getD (w .growth) e 0) (at w (e % size w)) (at w (r .node)) f)
       (λ l. over-later (grownSlot T w) (w .growth) (T .kinds * size w) e 0 l ∙ f)
       (order e (T .kinds * size w))
 

@@ -10,7 +10,7 @@ use Rattle.window.specs.Merging.{merged}
 use Rattle.window.specs.declared.Mark.{Mark}
 use Rattle.window.specs.declared.Mark.the-variants.{Reset, Root}
 use Rattle.window.specs.declared.Window.{Window}
-use Rattle.closure.specs.Suited.{Suited}
+use Rattle.steps.specs.Suited.{Suited}
 use Rattle.closure.specs.Scan.{Above, idle, higher}
 use Rattle.closure.specs.Closure.{Kept}
 use Rattle.law.specs.Graph.{Graph, Laws, State, graph, view, Chain, here, via, Target, lost, held, Inv}

@@ -21,7 +21,7 @@ use Rattle.window.specs.declared.Mark.the-variants.{Root}
 use Rattle.window.specs.declared.Seen.{Seen}
 use Rattle.window.specs.declared.Window.{Window}
 use Rattle.closure.specs.Lists.{any-at}
-use Rattle.closure.specs.Suited.{Suited}
+use Rattle.steps.specs.Suited.{Suited}
 use Rattle.closure.specs.Facts.{facts, node-within}
 use Rattle.closure.specs.Sight.{seen-edge, seen-none}
 use Rattle.closure.specs.After.{merged-at}
@@ -30,7 +30,7 @@ use Rattle.closure.specs.Closure.{Kept}
 use Rattle.law.specs.Bits.{xor-none}
 use Rattle.law.specs.Sums.{parity-none, arrivals-sum}
 use Rattle.law.specs.Nodes.{actives, unrooteds, pointers, marks}
-use Rattle.law.specs.Ways.{direction, there-back, node-detector}
+use Rattle.closure.specs.Ways.{direction, there-back, node-detector}
 use Rattle.law.specs.Graph.{Laws, graph, view, Inv, Calm}
 use Rattle.law.specs.GraphLaws.{laws}
 use Rattle.law.specs.Turn.{Turns, Stays, woke, cut, stayed, took}

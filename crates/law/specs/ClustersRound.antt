@@ -19,7 +19,7 @@ use Rattle.window.specs.Round.{loweredNumber, lowered, sunk, topNode, rounded}
 use Rattle.window.specs.Window.{reach, size, sheet, supplied, present, at, place, bottom, to}
 use Rattle.window.specs.declared.Mark.{Mark}
 use Rattle.window.specs.declared.Window.{Window}
-use Rattle.closure.specs.Suited.{Suited}
+use Rattle.steps.specs.Suited.{Suited}
 use Rattle.closure.specs.Edges.{edge, edge-there, edge-to, edge-slot}
 use Rattle.closure.specs.Facts.{Facts, facts, inside-at, index-within, present-within}
 use Rattle.closure.specs.After.{orphan, top-at, sunk-at}
@@ -27,7 +27,7 @@ use Rattle.closure.specs.Lower.{lower, index-lower, above-lt, above-place, abov
 use Rattle.closure.specs.LowerNumbers.{number-lowered, number-order}
 use Rattle.closure.specs.Closure.{Kept}
 use Rattle.law.specs.Nodes.{unrooteds, pointers, marks}
-use Rattle.law.specs.LowerSlots.{across-lower, slot-falls}
+use Rattle.closure.specs.LowerSlots.{across-lower, slot-falls}
 use Rattle.law.specs.Graph.{graph, view, Chain, here as arrived, via as over, same, Home, Calm}
 use Rattle.law.specs.Fallen.{Ends, centre, out, via, Sunk, Fallen}
 

@@ -4,13 +4,12 @@ use mathlib.Core.Path.{_≡_, sym, _∙_, ap, ap₂}
 use mathlib.Core.Bool.{Bool, false, _&&_}
 use lib.Dec.{eqb}
 use lib.ListN.{length, getD}
-use Rattle.shape.specs.Sizes.{layerEdgesOf}
-use Rattle.steps.specs.Steps.{Table}
+use Rattle.layers.specs.Layers.{edgeOf, layerEdges}
+use Rattle.steps.specs.Steps.{Table, namer}
 use Rattle.shape.specs.Nodes.{indexOf}
-use Rattle.layers.specs.Layer.{edgeOf}
 use Rattle.window.specs.Lists.{bit, xor}
 use Rattle.window.specs.LawsLists.{and-not}
-use Rattle.window.specs.Window.{reach, namer, present, at}
+use Rattle.window.specs.Window.{reach, present, at}
 use Rattle.window.specs.Round.{edgeSlot}
 use Rattle.law.specs.Law.{Played, Receipt, Spot, nearEnd, ends, sum, height, distance, sheets, last, entry, inWindow, placeNow, committed, standing, escaped, pending, ending}
 use Rattle.law.specs.Everywhere.{Detector, received, Conserved}
@@ -41,16 +40,16 @@ module _ (T : Table) (p : Played) where
   -- the edges of a sort that end at a spot
   abbrev pub ended : (ℕ → ℕ → Bool) → Spot → Bool
   ended sort a =
-      parity (last p + 1) (λ n. parity (layerEdgesOf (height p) (distance p)) (λ i. sort n i && ends T n (edgeOf (height p) (distance p) i) a))
+      parity (last p + 1) (λ n. parity (layerEdges T (height p) (distance p)) (λ i. sort n i && ends T n (edgeOf T (height p) (distance p) i) a))
 
   -- edge i of round n's layer is one of the window; its slot there
   abbrev pub edged : ℕ → ℕ → Bool
   edged n i =
-      let e = edgeOf (height p) (distance p) i in
+      let e = edgeOf T (height p) (distance p) i in
       inWindow p n && reach T (height p) (distance p) (present (p .window)) (namer T (e .kind)) (placeNow p (nearEnd n e)) .there
 
   abbrev pub slotOf : ℕ → ℕ → ℕ
-  slotOf n i = edgeSlot T (height p) (distance p) (last p - n) (edgeOf (height p) (distance p) i)
+  slotOf n i = edgeSlot (height p) (distance p) (last p - n) (edgeOf T (height p) (distance p) i)
 
   -- an edge's correction bit, likewise
   abbrev pub corrected : ℕ → ℕ → Bool
@@ -68,23 +67,23 @@ module _ (T : Table) (p : Played) where
 
   ending-parity : (sort : ℕ → ℕ → Bool) (a : Spot) → ending T p sort a % 2 ≡ bit (ended sort a)
   ending-parity sort a =
-      let f : ℕ → ℕ → Bool = λ n i. sort n i && ends T n (edgeOf (height p) (distance p) i) a in
-      let E = layerEdgesOf (height p) (distance p) in
+      let f : ℕ → ℕ → Bool = λ n i. sort n i && ends T n (edgeOf T (height p) (distance p) i) a in
+      let E = layerEdges T (height p) (distance p) in
       sum-parity (λ n. sum E (λ i. bit (f n i))) (λ n. parity E (f n)) (last p + 1)
       (λ n. sum-parity (λ i. bit (f n i)) (f n) E (λ i. bit-mod (f n i)))
 
   pub ended-xor : (f g : ℕ → ℕ → Bool) (a : Spot) → xor (ended f a) (ended g a) ≡ ended (λ n i. xor (f n i) (g n i)) a
   ended-xor f g a =
-      let E = layerEdgesOf (height p) (distance p) in
-      let at : ℕ → ℕ → Bool = λ n i. ends T n (edgeOf (height p) (distance p) i) a in
+      let E = layerEdges T (height p) (distance p) in
+      let at : ℕ → ℕ → Bool = λ n i. ends T n (edgeOf T (height p) (distance p) i) a in
       sym (parity-xor (λ n. parity E (λ i. f n i && at n i)) (λ n. parity E (λ i. g n i && at n i)) (last p + 1))
       ∙ parity-same _ (λ n. parity E (λ i. xor (f n i) (g n i) && at n i)) (last p + 1)
       (λ n l. sym (parity-xor (λ i. f n i && at n i) (λ i. g n i && at n i) E) ∙ parity-same _ (λ i. xor (f n i) (g n i) && at n i) E (λ i k. xor-and (f n i) (g n i) (at n i)))
 
   pub ended-none : (sort : ℕ → ℕ → Bool) (a : Spot)
-      → ((n i : ℕ) → n < last p + 1 → i < layerEdgesOf (height p) (distance p) → (sort n i && ends T n (edgeOf (height p) (distance p) i) a) ≡ false)
+      → ((n i : ℕ) → n < last p + 1 → i < layerEdges T (height p) (distance p) → (sort n i && ends T n (edgeOf T (height p) (distance p) i) a) ≡ false)
       → ended sort a ≡ false
-  ended-none sort a e = parity-none _ (last p + 1) (λ n l. parity-none (λ i. sort n i && ends T n (edgeOf (height p) (distance p) i) a) (layerEdgesOf (height p) (distance p)) (λ i k. e n i l k))
+  ended-none sort a e = parity-none _ (last p + 1) (λ n l. parity-none (λ i. sort n i && ends T n (edgeOf T (height p) (distance p) i) a) (layerEdges T (height p) (distance p)) (λ i k. e n i l k))
 
   counted : (a : Spot) → (ending T p (committed p) a + ending T p (pending T p) a + bit (standing p a) + bit (escaped p a)) % 2 ≡ bit (charge a)
   counted a =

@@ -11,11 +11,9 @@ use Rattle.shape.specs.Ranges.{ranged}
 use Rattle.shape.specs.Nodes.{indexOf}
 use Rattle.steps.specs.Steps.{Table}
 use Rattle.shape.specs.declared.Shape.{Shape}
-use Rattle.window.specs.Window.{maxSlots}
 use Rattle.window.specs.Lists.{bit, xor}
-use Rattle.window.specs.LawsLists.{and-no, and-not}
-use Rattle.window.specs.Fresh.{freshWindow}
-use Rattle.window.specs.LawsLists.{getD-same}
+use Rattle.window.specs.LawsLists.{and-no, and-not, getD-same}
+use Rattle.window.specs.Fresh.{slotsOf, freshWindow}
 use Rattle.closure.specs.After.{fresh-at}
 use Rattle.law.specs.Law.{Played, Spot, start, sheets, last, inWindow, placeNow, standing}
 use Rattle.law.specs.Everywhere.{Detector, Conserved}
@@ -25,17 +23,17 @@ use Rattle.law.specs.Conserved.{ended-none, edged, slotOf, corrected, de
 
 module _ (T : Table) (sh : Shape) (e : inRange (sh .height) (sh .distance) ≡ true) where
   abbrev fresh : Played
-  fresh = start (freshWindow sh)
+  fresh = start (freshWindow T sh)
 
   fresh-edge : (n i : ℕ) → corrected T fresh n i ≡ false
   unfolding freshWindow
-  fresh-edge n i = ap (λ (b : Bool). xor false b) (and-no (edged T fresh n i) _ (getD-same false maxSlots (slotOf T fresh n i)))
+  fresh-edge n i = ap (λ (b : Bool). xor false b) (and-no (edged T fresh n i) _ (getD-same false (slotsOf T) (slotOf T fresh n i)))
 
   fresh-spot : (a : Spot) → Detector fresh a → standing fresh a ≡ false
   unfolding freshWindow
   fresh-spot a i =
       let l : last fresh - a .round < sheets fresh = omega arith in
-      and-no (inWindow fresh (a .round)) _ (defects (fresh-at sh (indexOf (sh .height) (sh .distance) (placeNow fresh a)) (spot-lt fresh a i l (ranged _ _ e))))
+      and-no (inWindow fresh (a .round)) _ (defects (fresh-at T sh (indexOf (sh .height) (sh .distance) (placeNow fresh a)) (spot-lt fresh a i l (ranged _ _ e))))
 
   pub conserved-fresh : Conserved T fresh
   unfolding freshWindow

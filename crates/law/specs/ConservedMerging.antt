@@ -6,20 +6,20 @@ use mathlib.Core.Bool.{Bool, true, false, _&&_}
 use mathlib.Core.List.{List}
 use mathlib.Core.Logic.{⊎-elim}
 use lib.ListN.{length, getD}
+use Rattle.layers.specs.Layers.{edgeOf, layerEdges}
 use Rattle.shape.specs.Choice.{tell, order}
-use Rattle.shape.specs.Sizes.{boundary, layerEdgesOf}
+use Rattle.shape.specs.Sizes.{boundary}
 use Rattle.shape.specs.Boundaries.{not-end}
 use Rattle.shape.specs.Nodes.{indexOf}
 use Rattle.shape.specs.LawsIndex.{place-index}
 use Rattle.steps.specs.Steps.{Table, slot}
-use Rattle.layers.specs.Layer.{edgeOf}
 use Rattle.shape.specs.declared.Place.{Place}
 use Rattle.window.specs.Lists.{bit, xor}
 use Rattle.window.specs.LawsLists.{and-no, and-not}
 use Rattle.window.specs.Window.{isMerging, reach, present, at, place}
 use Rattle.window.specs.Merging.{merged}
 use Rattle.window.specs.declared.Window.{Window}
-use Rattle.closure.specs.Suited.{Suited}
+use Rattle.steps.specs.Suited.{Suited}
 use Rattle.closure.specs.Facts.{Facts}
 use Rattle.law.specs.Law.{Played, Spot, ends, height, distance, sheets, last, inWindow, placeNow, committed, standing, escaped, pending}
 use Rattle.law.specs.Everywhere.{Detector, Conserved}
@@ -28,12 +28,11 @@ use Rattle.law.specs.Bits.{refuted, xor-laws}
 use Rattle.law.specs.Sums.{parity}
 use Rattle.law.specs.Spots.{ends-at, in-window, window-in, below-window, spot-inside, spot-lt}
 use Rattle.law.specs.Conserved.{ended, ended-xor, ended-none, edged, slotOf, defective, charge, charged, conserved-by}
-use Rattle.law.specs.Layered.{Layered}
 use Rattle.law.specs.LayerEdges.{way-up}
 use Rattle.law.specs.Around.{around}
 use Rattle.law.specs.Pushed.{pushed}
 
-module _ (T : Table) (S : Suited T) (L : Layered T) (p : Played) (f : Facts T (p .window)) (st : isMerging (p .window .stage) ≡ true) where
+module _ (T : Table) (S : Suited T) (p : Played) (f : Facts T (p .window)) (st : isMerging (p .window .stage) ≡ true) where
   abbrev w : Window
   w = p .window
 
@@ -70,26 +69,26 @@ module _ (T : Table) (S : Suited T) (L : Layered T) (p : Played) (f : Facts T (p
         ≡ xor (slots (λ k. getD (w .correction) k false) a) (inWindow p (a .round) && at w g .defect)
     inside =
         let x = in-window p (a .round) (i .arrived) l in
-        ap₂ (λ (c b : Bool). xor c (b && at (merged T w) g .defect)) (around T S L p (f .ranged) a (i .arrived) (λ k. getD (merged T w .correction) k false) ∙ ap (sumAt (merged T w .correction)) (sym at-g)) x
+        ap₂ (λ (c b : Bool). xor c (b && at (merged T w) g .defect)) (around T S p (f .ranged) a (i .arrived) (λ k. getD (merged T w .correction) k false) ∙ ap (sumAt (merged T w .correction)) (sym at-g)) x
         ∙ pushed T w S f st g (spot-lt p a i l (f .ranged)) det
-        ∙ sym (ap₂ (λ (c b : Bool). xor c (b && at w g .defect)) (around T S L p (f .ranged) a (i .arrived) (λ k. getD (w .correction) k false) ∙ ap (sumAt (w .correction)) (sym at-g)) x)
+        ∙ sym (ap₂ (λ (c b : Bool). xor c (b && at w g .defect)) (around T S p (f .ranged) a (i .arrived) (λ k. getD (w .correction) k false) ∙ ap (sumAt (w .correction)) (sym at-g)) x)
 
   -- at a detector that has left it: nothing
   module _ (a : Spot) (l : s ≤ last p - a .round) where
-    no-end : (n i : ℕ) → i < layerEdgesOf h d → inWindow p n ≡ true → ends T n (edgeOf h d i) a ≡ true → ⊥
+    no-end : (n i : ℕ) → i < layerEdges T h d → inWindow p n ≡ true → ends T n (edgeOf T h d i) a ≡ true → ⊥
     no-end n i m b t =
-        let e = edgeOf h d i in
+        let e = edgeOf T h d i in
         let x = window-in p n b in
         let lo = x .0 in
         let hi = x .1 in
-        let u = way-up T S L h d i (f .ranged) m in
+        let u = way-up T S h d i (f .ranged) m in
         ⊎-elim (λ y. let z = ap (λ (c : Spot). c .round) y in omega arith) (λ y. let z = ap (λ (c : Spot). c .round) y in omega arith) (ends-at T n e a t)
 
     outside : (C : ℕ → Bool) → slots C a ≡ false
     outside C =
         ended-none T p (λ n i. edged T p n i && C (slotOf T p n i)) a
         (λ n i m k. ⊎-elim
-        (λ b. and-no (edged T p n i && C (slotOf T p n i)) _ (refuted (ends T n (edgeOf h d i) a) (λ t. no-end n i k b t)))
+        (λ b. and-no (edged T p n i && C (slotOf T p n i)) _ (refuted (ends T n (edgeOf T h d i) a) (λ t. no-end n i k b t)))
         (λ b. and-not _ _ (and-not (edged T p n i) _ (and-not (inWindow p n) _ b)))
         (tell (inWindow p n)))
 

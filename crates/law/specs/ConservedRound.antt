@@ -8,15 +8,14 @@ use mathlib.Core.Logic.{⊎-elim}
 use lib.Dec.{eqb}
 use lib.ListN.{getD}
 use Rattle.list.specs.Sheet.{areBits}
+use Rattle.layers.specs.Layers.{edgeOf, layerEdges}
 use Rattle.shape.specs.Choice.{order}
 use Rattle.shape.specs.Ranges.{Ranged}
-use Rattle.shape.specs.Sizes.{layerEdgesOf}
 use Rattle.steps.specs.Steps.{Table}
-use Rattle.layers.specs.Layer.{edgeOf}
 use Rattle.window.specs.Lists.{bit, xor}
 use Rattle.window.specs.LawsLists.{and-not}
 use Rattle.window.specs.Round.{rounded}
-use Rattle.closure.specs.Suited.{Suited}
+use Rattle.steps.specs.Suited.{Suited}
 use Rattle.closure.specs.Facts.{Facts}
 use Rattle.law.specs.Law.{Played, Spot, ends, height, distance, last, entry}
 use Rattle.law.specs.Everywhere.{Detector, received, Conserved}
@@ -25,11 +24,10 @@ use Rattle.law.specs.Bits.{xor-none, none-xor, byte-bit}
 use Rattle.law.specs.Sums.{parity, parity-more, parity-same, parity-none}
 use Rattle.law.specs.Receipts.{later}
 use Rattle.law.specs.Conserved.{ended, ended-none, corrected, charge, charged, conserved-by}
-use Rattle.law.specs.Layered.{Layered}
 use Rattle.law.specs.RoundEdges.{old-edge, new-edge, ends-below}
 use Rattle.law.specs.RoundDefects.{old-defect, new-defect, old-received, new-received}
 
-module _ (T : Table) (S : Suited T) (L : Layered T) (p : Played) (defects : List ℕ) (f : Facts T (p .window)) where
+module _ (T : Table) (S : Suited T) (p : Played) (defects : List ℕ) (f : Facts T (p .window)) where
   abbrev r : Ranged (height p) (distance p)
   r = f .ranged
 
@@ -43,10 +41,10 @@ module _ (T : Table) (S : Suited T) (L : Layered T) (p : Played) (defects : List
   d = distance p
 
   abbrev E : ℕ
-  E = layerEdgesOf h d
+  E = layerEdges T h d
 
   abbrev terms : (ℕ → ℕ → Bool) → Spot → ℕ → Bool
-  terms sort a n = parity E (λ i. sort n i && ends T n (edgeOf h d i) a)
+  terms sort a n = parity E (λ i. sort n i && ends T n (edgeOf T h d i) a)
 
   ended-after : (a : Spot) → ended T after (corrected T after) a ≡ ended T p (corrected T p) a
   unfolding rounded
@@ -56,13 +54,13 @@ module _ (T : Table) (S : Suited T) (L : Layered T) (p : Played) (defects : List
       ∙ ap₂ (λ (x y : Bool). xor x y)
       (parity-same (terms (corrected T after) a) (terms (corrected T p) a) (last p + 1) (λ n m.
       let high : n ≤ last p = omega arith in
-      parity-same _ (λ i. corrected T p n i && ends T n (edgeOf h d i) a) E (λ i l. ap (λ (b : Bool). b && ends T n (edgeOf h d i) a) (old-edge T S L p defects f n i l high))))
-      (parity-none (λ i. corrected T after (last p + 1) i && ends T (last p + 1) (edgeOf h d i) a) E (λ i l. and-not _ _ (new-edge T S L p defects f (last p + 1) i l refl)))
+      parity-same _ (λ i. corrected T p n i && ends T n (edgeOf T h d i) a) E (λ i l. ap (λ (b : Bool). b && ends T n (edgeOf T h d i) a) (old-edge T S p defects f n i l high))))
+      (parity-none (λ i. corrected T after (last p + 1) i && ends T (last p + 1) (edgeOf T h d i) a) E (λ i l. and-not _ _ (new-edge T S p defects f (last p + 1) i l refl)))
       ∙ xor-none (ended T p (corrected T p) a)
 
   ended-new : (a : Spot) → a .round ≡ last p + 1 → ended T p (corrected T p) a ≡ false
   ended-new a e =
-      ended-none T p (corrected T p) a (λ n i m l. let high : n ≤ last p = omega arith in ends-below T S L p r n i l a e high)
+      ended-none T p (corrected T p) a (λ n i m l. let high : n ≤ last p = omega arith in ends-below T S p r n i l a e high)
 
   pub conserved-round : areBits defects ≡ true → Conserved T p → Conserved T after
   unfolding rounded

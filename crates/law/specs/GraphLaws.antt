@@ -11,10 +11,10 @@ use Rattle.steps.specs.Steps.{Table}
 use Rattle.shape.specs.declared.Place.{Place}
 use Rattle.window.specs.Window.{size, place, to}
 use Rattle.window.specs.declared.Window.{Window}
-use Rattle.closure.specs.Suited.{Suited}
+use Rattle.steps.specs.Suited.{Suited}
 use Rattle.closure.specs.Facts.{facts, numbered-at, node-within}
 use Rattle.closure.specs.Closure.{Kept}
-use Rattle.law.specs.Ways.{direction, there-back, node-back, slot-same}
+use Rattle.closure.specs.Ways.{direction, there-back, node-back, slot-same}
 use Rattle.law.specs.Graph.{Laws, graph}
 
 module _ (T : Table) (w : Window) where

@@ -6,14 +6,14 @@ use mathlib.Core.List.{List, [], _∷_, _++_}
 use lib.Dec.{ltb, leb, eqb}
 use lib.ListN.{length, getD}
 use Rattle.refusal.specs.Answer.{done, valueOr, itself}
-use Rattle.shape.specs.Sizes.{sheetsOf, layerEdgesOf}
+use Rattle.shape.specs.Sizes.{sheetsOf}
+use Rattle.layers.specs.Layers.{edgeOf, layerEdges}
 use Rattle.shape.specs.Nodes.{indexOf, numberOf}
-use Rattle.steps.specs.Steps.{Table, step, goes}
-use Rattle.layers.specs.Layer.{edgeOf}
+use Rattle.steps.specs.Steps.{Table, step, goes, namer}
 use Rattle.layers.specs.declared.Edge.{Edge}
 use Rattle.shape.specs.declared.Place.{Place}
 use Rattle.window.specs.Lists.{bit}
-use Rattle.window.specs.Window.{isRest, reach, namer, size, present, at, place, detector, to}
+use Rattle.window.specs.Window.{isRest, reach, size, present, at, place, detector, to}
 use Rattle.window.specs.Round.{edgeSlot}
 use Rattle.window.specs.Measured.{differences, asSheet}
 use Rattle.window.specs.Calls.{leaves, Round, windowOf, freshCall, roundCall, rawCall, growCall, mergingCall, runCall}
@@ -183,15 +183,15 @@ module _ (T : Table) (p : Played) where
   -- pending is an edge of the window whose correction bit is set
   abbrev pub pending : ℕ → ℕ → Bool
   pending n i =
-      let e = edgeOf (height p) (distance p) i in
+      let e = edgeOf T (height p) (distance p) i in
       inWindow p n
       && reach T (height p) (distance p) (present (p .window)) (namer T (e .kind)) (placeNow p (nearEnd n e)) .there
-      && getD (p .window .correction) (edgeSlot T (height p) (distance p) (last p - n) e) false
+      && getD (p .window .correction) (edgeSlot (height p) (distance p) (last p - n) e) false
 
   -- the number of edges of a sort that end at a detector: over the layers of all rounds up to the last, and the edges i of each
   abbrev pub ending : (ℕ → ℕ → Bool) → Spot → ℕ
   ending sort a =
-      sum (last p + 1) (λ n. sum (layerEdgesOf (height p) (distance p)) (λ i. bit (sort n i && ends T n (edgeOf (height p) (distance p) i) a)))
+      sum (last p + 1) (λ n. sum (layerEdges T (height p) (distance p)) (λ i. bit (sort n i && ends T n (edgeOf T (height p) (distance p) i) a)))
 
 -- CLUSTERS
 
@@ -262,4 +262,4 @@ pub record Law (T : Table) (fresh : Window) (p : Played) : Type 0 where
 
 -- of every fresh window, whatever list of calls it is given
 abbrev pub Demand3 : Table → Type 0
-Demand3 T = (height distance : ℕ) (w : Window) (n : ℕ) → freshCall height distance ≡ done w n → (calls : List Call) → Law T w (play T (start w) calls)
+Demand3 T = (height distance : ℕ) (w : Window) (n : ℕ) → freshCall T height distance ≡ done w n → (calls : List Call) → Law T w (play T (start w) calls)

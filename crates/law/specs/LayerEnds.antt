@@ -3,31 +3,28 @@ use Prim.Native.Nat.{ℕ, _+_, _-_, _≤_, _<_}
 use native.Mathlib.Omega.{arith}
 use mathlib.Core.Path.{_≡_, refl, ap, subst}
 use mathlib.Core.Logic.{⊎-elim}
+use Rattle.layers.specs.Layers.{edgeNumber, edgeOf, layerEdges, edgeBy}
+use Rattle.law.specs.Layered.{layered}
 use Rattle.shape.specs.Choice.{if-true, if-false, tell}
-use Rattle.shape.specs.Sizes.{layerEdgesOf}
-use Rattle.steps.specs.Steps.{Table, step, goes, across, slot}
+use Rattle.steps.specs.Steps.{Table, step, goes, across, slot, namer, namingEnd}
 use Rattle.steps.specs.Joins.{Joins}
 use Rattle.steps.specs.Proper.{Points, Opposed, Reversed, points}
-use Rattle.layers.specs.Layer.{edgeNumber, edgeOf}
-use Rattle.steps.specs.LawsStep.{across-back, joins-back, namer as namedBy}
+use Rattle.steps.specs.LawsStep.{across-back, joins-back}
 use Rattle.layers.specs.declared.Edge.{Edge}
 use Rattle.shape.specs.declared.Place.{Place}
 use Rattle.steps.specs.declared.Shift.{Shift}
 use Rattle.steps.specs.declared.Step.{Step}
-use Rattle.window.specs.Window.{namer}
+use Rattle.steps.specs.Suited.{Suited, Names, namer-names, namer-is, namer-back}
 use Rattle.window.specs.Round.{edgeSlot}
-use Rattle.closure.specs.Suited.{Suited}
 use Rattle.law.specs.Law.{Spot}
-use Rattle.law.specs.Naming.{Names, namer-names, namer-is, namer-back}
 use Rattle.law.specs.Spots.{spot-by}
-use Rattle.law.specs.Layered.{Layered, edgeBy}
 
 -- the edge of pointer v at q as its layer has it, and its number there
 abbrev pub edgeHere : Table → Place → ℕ → Edge
-edgeHere T q v = record { kind = step T v .kind; row = namedBy T v q .row; column = namedBy T v q .column }
+edgeHere T q v = record { kind = step T v .kind; row = namingEnd T v q .row; column = namingEnd T v q .column }
 
 abbrev pub numberHere : Table → ℕ → ℕ → Place → ℕ → ℕ
-numberHere T h d q v = edgeNumber h d (edgeHere T q v)
+numberHere T h d q v = edgeNumber T h d (edgeHere T q v)
 
 module _ (T : Table) (S : Suited T) (h d s : ℕ) (q : Place) (v : ℕ) (j : Joins h d s (step T v) q) where
   abbrev kind : ℕ
@@ -43,23 +40,22 @@ module _ (T : Table) (S : Suited T) (h d s : ℕ) (q : Place) (v : ℕ) (j : Joi
   names = namer-names T S kind (opposed .kind)
 
   -- there is an edge in the direction in which it is named
-  pub named-joins : Joins h d s (step T (namer T kind)) (namedBy T v q)
+  pub named-joins : Joins h d s (step T (namer T kind)) (namingEnd T v q)
   named-joins =
       ⊎-elim (λ o. rw (namer-is T S v pointed o, if-true (step T v .own) q (across (step T v) q) o) j)
       (λ o. rw (namer-back T S v pointed o, if-false (step T v .own) q (across (step T v) q) o) (joins-back h d s (step T v) (step T (step T v .back)) (opposed .reversed) q j))
       (tell (step T v .own))
 
-  module _ (L : Layered T) where
-    by-name : edgeBy T (namer T kind) (namedBy T v q) ≡ edgeHere T q v
-    by-name = ap {B = Edge} (λ (k : ℕ). record { kind = k; row = namedBy T v q .row; column = namedBy T v q .column }) (names .same)
+  by-name : edgeBy T (namer T kind) (namingEnd T v q) ≡ edgeHere T q v
+  by-name = ap {B = Edge} (λ (k : ℕ). record { kind = k; row = namingEnd T v q .row; column = namingEnd T v q .column }) (names .same)
 
-    pub number-below : numberHere T h d q v < layerEdgesOf h d
-    number-below = subst (λ (e : Edge). edgeNumber h d e < layerEdgesOf h d) by-name (L .number-lt h d s (namer T kind) (namedBy T v q) named-joins (names .own))
+  pub number-below : numberHere T h d q v < layerEdges T h d
+  number-below = subst (λ (e : Edge). edgeNumber T h d e < layerEdges T h d) by-name (layered T S .number-lt h d s (namer T kind) (namingEnd T v q) named-joins (names .own))
 
-    pub number-is : edgeOf h d (numberHere T h d q v) ≡ edgeHere T q v
-    number-is = subst (λ (e : Edge). edgeOf h d (edgeNumber h d e) ≡ e) by-name (L .number-of h d s (namer T kind) (namedBy T v q) named-joins (names .own))
+  pub number-is : edgeOf T h d (numberHere T h d q v) ≡ edgeHere T q v
+  number-is = subst (λ (e : Edge). edgeOf T h d (edgeNumber T h d e) ≡ e) by-name (layered T S .number-of h d s (namer T kind) (namingEnd T v q) named-joins (names .own))
 
-pub slot-is : (T : Table) (h d : ℕ) (q : Place) (v : ℕ) → slot T h d v q ≡ edgeSlot T h d (namedBy T v q .depth) (edgeHere T q v)
+pub slot-is : (T : Table) (h d : ℕ) (q : Place) (v : ℕ) → slot T h d v q ≡ edgeSlot h d (namingEnd T v q .depth) (edgeHere T q v)
 unfolding slot
 slot-is T h d q v = refl
 

@@ -2,15 +2,13 @@
 pub mod Law
 pub mod Witness
 pub mod RawWitness
+pub mod CircuitWitness
 pub mod Rules
 pub mod Play
 -- bits, sums, nodes and edges
 pub mod Bits
 pub mod Sums
 pub mod Nodes
-pub mod Ways
-pub mod Naming
-pub mod LowerSlots
 -- the clusters: what holds of them in each stage
 pub mod Graph
 pub mod GraphLaws

@@ -4,8 +4,7 @@ use Prim.Native.Nat.{ℕ, _+_, _%_}
 use native.Mathlib.Omega.{arith}
 use mathlib.Core.Path.{_≡_, refl, ap}
 use mathlib.Core.Bool.{_&&_}
-use Rattle.layers.specs.Layer.{edgeOf}
-use Rattle.shape.specs.Sizes.{layerEdgesOf}
+use Rattle.layers.specs.Layers.{edgeOf, layerEdges}
 use Rattle.steps.specs.Steps.{base}
 use Rattle.window.specs.Lists.{bit}
 use Rattle.law.specs.Law.{Played, Spot, Detector, nearEnd, same, sum, height, distance, last, received, committed, pending, standing, escaped, ending}
@@ -13,7 +12,7 @@ use Rattle.law.specs.Witness.{Terms, terms, spot, tie, opened, met}
 
 -- committed edges, counted at the end that names them alone
 abbrev pub once : Played → Spot → ℕ
-once p a = sum (last p + 1) (λ n. sum (layerEdgesOf (height p) (distance p)) (λ i. bit (committed p n i && same (nearEnd n (edgeOf (height p) (distance p) i)) a)))
+once p a = sum (last p + 1) (λ n. sum (layerEdges base (height p) (distance p)) (λ i. bit (committed p n i && same (nearEnd n (edgeOf base (height p) (distance p) i)) a)))
 
 abbrev pub OneEnded : Played → Type 0
 OneEnded p = (a : Spot) → Detector p a → received p a % 2 ≡ (once p a + ending base p (pending base p) a + bit (standing p a) + bit (escaped p a)) % 2

@@ -1,4 +1,4 @@
--- The ends of an edge of the base table, and a measured sheet, in plain numbers, to be read beside documents 01 and 02. Assumes nothing.
+-- The ends of an edge of either model, and a measured sheet, in plain numbers, to be read beside documents 01 and 02. Assumes nothing.
 use Prim.Native.Nat.{ℕ, _+_, _%_, _<_}
 use native.Mathlib.Omega.{arith}
 use mathlib.Core.Path.{_≡_, refl, sym, _∙_, ap}
@@ -8,10 +8,10 @@ use lib.Dec.{eqb}
 use lib.ListN.{length, getD, replicate}
 use Rattle.shape.specs.Sizes.{maxDetectors}
 use Rattle.list.specs.Sheet.{areBits}
-use Rattle.steps.specs.Steps.{base}
+use Rattle.steps.specs.Steps.{Table, base, naming}
+use Rattle.steps.specs.Models.{circuit}
 use Rattle.layers.specs.declared.Edge.{Edge}
 use Rattle.window.specs.Lists.{bit, xor}
-use Rattle.window.specs.Window.{naming}
 use Rattle.window.specs.Measured.{isSet, differences, asSheet}
 use Rattle.window.specs.LawsMeasured.{difference-at, sheet-none, sheet-at}
 use Rattle.law.specs.Law.{Spot, nearEnd, farEnd}
@@ -26,20 +26,20 @@ abbrev spot : ℕ → ℕ → ℕ → Spot
 spot n r c = record { round = n; row = r; column = c }
 
 -- of round n's layer
-pub record Plain : Type 0 where
+pub record Plain (T : Table) : Type 0 where
   -- a row edge joins columns c and c + 1
   pub row-near : (n r c : ℕ) → nearEnd n (edge 0 r c) ≡ spot n r c
-  pub row-far : (n r c : ℕ) → farEnd base n (edge 0 r c) ≡ spot n r (c + 1)
+  pub row-far : (n r c : ℕ) → farEnd T n (edge 0 r c) ≡ spot n r (c + 1)
   -- a column edge joins rows r and r + 1
   pub column-near : (n r c : ℕ) → nearEnd n (edge 1 r c) ≡ spot n r c
-  pub column-far : (n r c : ℕ) → farEnd base n (edge 1 r c) ≡ spot n (r + 1) c
+  pub column-far : (n r c : ℕ) → farEnd T n (edge 1 r c) ≡ spot n (r + 1) c
   -- a time edge joins rounds n and n + 1
   pub time-near : (n r c : ℕ) → nearEnd n (edge 2 r c) ≡ spot n r c
-  pub time-far : (n r c : ℕ) → farEnd base n (edge 2 r c) ≡ spot (n + 1) r c
+  pub time-far : (n r c : ℕ) → farEnd T n (edge 2 r c) ≡ spot (n + 1) r c
 
-pub plain : Plain
+pub plain-0 : Plain base
 unfolding base naming
-plain =
+plain-0 =
     record {
       row-near = λ n r c. refl;
       row-far = λ n r c. spot-by (farEnd base n (edge 0 r c)) (spot n r (c + 1)) (omega arith) (omega arith) (omega arith);
@@ -47,6 +47,35 @@ plain =
       column-far = λ n r c. spot-by (farEnd base n (edge 1 r c)) (spot n (r + 1) c) (omega arith) (omega arith) (omega arith);
       time-near = λ n r c. refl;
       time-far = λ n r c. spot-by (farEnd base n (edge 2 r c)) (spot (n + 1) r c) (omega arith) (omega arith) (omega arith);
+    }
+
+pub plain-1 : Plain circuit
+unfolding circuit naming
+plain-1 =
+    record {
+      row-near = λ n r c. refl;
+      row-far = λ n r c. spot-by (farEnd circuit n (edge 0 r c)) (spot n r (c + 1)) (omega arith) (omega arith) (omega arith);
+      column-near = λ n r c. refl;
+      column-far = λ n r c. spot-by (farEnd circuit n (edge 1 r c)) (spot n (r + 1) c) (omega arith) (omega arith) (omega arith);
+      time-near = λ n r c. refl;
+      time-far = λ n r c. spot-by (farEnd circuit n (edge 2 r c)) (spot (n + 1) r c) (omega arith) (omega arith) (omega arith);
+    }
+
+-- the edges that model 1 has besides: each joins rounds n and n + 1, the upper end one row north, one column east, or one row south and one column east
+pub record PlainDiagonals : Type 0 where
+  pub near : (n kind r c : ℕ) → nearEnd n (edge kind r c) ≡ spot n r c
+  pub north : (n r c : ℕ) → farEnd circuit n (edge 3 (r + 1) c) ≡ spot (n + 1) r c
+  pub east : (n r c : ℕ) → farEnd circuit n (edge 4 r c) ≡ spot (n + 1) r (c + 1)
+  pub south-east : (n r c : ℕ) → farEnd circuit n (edge 5 r c) ≡ spot (n + 1) (r + 1) (c + 1)
+
+pub plain-diagonals : PlainDiagonals
+unfolding circuit naming
+plain-diagonals =
+    record {
+      near = λ n kind r c. refl;
+      north = λ n r c. spot-by (farEnd circuit n (edge 3 (r + 1) c)) (spot (n + 1) r c) (omega arith) (omega arith) (omega arith);
+      east = λ n r c. spot-by (farEnd circuit n (edge 4 r c)) (spot (n + 1) r (c + 1)) (omega arith) (omega arith) (omega arith);
+      south-east = λ n r c. spot-by (farEnd circuit n (edge 5 r c)) (spot (n + 1) (r + 1) (c + 1)) (omega arith) (omega arith) (omega arith);
     }
 
 -- THE LAST MEASURED SHEET, and what a raw call receives

@@ -16,7 +16,7 @@ use Rattle.window.specs.LawsMeasured.{differences-bits}
 use Rattle.window.specs.Calls.{leaves, Round, windowOf, receiving, receivingRaw, roundCall, rawCall, growCall, mergingCall, runCall}
 use Rattle.window.specs.declared.Ran.{Ran}
 use Rattle.window.specs.declared.Window.{Window}
-use Rattle.closure.specs.Suited.{Suited}
+use Rattle.steps.specs.Suited.{Suited}
 use Rattle.closure.specs.Run.{run-keeps}
 use Rattle.closure.specs.Done.{leaves-keeps, Accepted, staged, accepted}
 use Rattle.closure.specs.Closure.{Kept, kept-round, kept-raw, kept-grow, kept-merging}

@@ -13,19 +13,18 @@ use Rattle.shape.specs.Ranges.{Ranged}
 use Rattle.shape.specs.Sizes.{boundary}
 use Rattle.shape.specs.Nodes.{indexOf}
 use Rattle.shape.specs.LawsIndex.{index-place}
-use Rattle.steps.specs.Steps.{Table, step, across, slot}
+use Rattle.steps.specs.Steps.{Table, step, across, slot, namer, namingEnd}
 use Rattle.steps.specs.Joins.{Joins}
 use Rattle.steps.specs.Proper.{Points, points}
-use Rattle.steps.specs.LawsStep.{namer as namedBy}
 use Rattle.shape.specs.declared.Place.{Place}
 use Rattle.window.specs.Lists.{xor}
 use Rattle.window.specs.LawsLists.{and-no}
-use Rattle.window.specs.Window.{isMerging, namer, size, supplied, present, at, place, detector, to}
+use Rattle.window.specs.Window.{isMerging, size, supplied, present, at, place, detector, to}
+use Rattle.steps.specs.Suited.{Suited, namer-is, namer-back}
 use Rattle.window.specs.Merging.{pushes, sends, hot, flipped, seen, stepped, stepAt, merged}
 use Rattle.window.specs.declared.Seen.{Seen}
 use Rattle.window.specs.declared.Window.{Window}
 use Rattle.closure.specs.States.{merging-led}
-use Rattle.closure.specs.Suited.{Suited}
 use Rattle.closure.specs.Edges.{edge, edge-there, edge-to}
 use Rattle.closure.specs.Facts.{Pointing, centre, along, Facts, index-within, present-within}
 use Rattle.closure.specs.Sight.{sight, seen-edge, seen-none}
@@ -33,8 +32,7 @@ use Rattle.closure.specs.After.{merged-at, flipped-slot}
 use Rattle.law.specs.Bits.{xor-laws}
 use Rattle.law.specs.Sums.{arrivals-sum, parity, parity-xor, parity-same, parity-none, parity-only}
 use Rattle.law.specs.Nodes.{defects}
-use Rattle.law.specs.Ways.{node-detector, there-back, node-back}
-use Rattle.law.specs.Naming.{namer-is, namer-back}
+use Rattle.closure.specs.Ways.{node-detector, there-back, node-back}
 use Rattle.law.specs.LayerEnds.{named-joins}
 
 -- WHAT IS SENT, over K directions: along none, or along one that is there
@@ -90,11 +88,11 @@ module _ (T : Table) (w : Window) where
     pointed = points T v (j .moves)
 
     -- as node n, which names it in direction p, flips it
-    flips : (n p : ℕ) → indexOf h d (namedBy T v q) ≡ n → namer T (step T v .kind) ≡ p
+    flips : (n p : ℕ) → indexOf h d (namingEnd T v q) ≡ n → namer T (step T v .kind) ≡ p
         → getD (merged T w .correction) (slot T h d v q) false ≡ flipped old (detector w n) (at w n) p (seen T w n (p - 1))
     unfolding slot
     flips n p e x =
-        let m = namedBy T v q in
+        let m = namingEnd T v q in
         flipped-slot T w (indexOf h d m) (step T v .kind) (index-within h d r m (present-within h d (w .next) m (named-joins T S h d there q v j .from))) (S .proper .opposed v pointed .kind)
         ∙ ap₂ (λ (n p : ℕ). flipped old (detector w n) (at w n) p (seen T w n (p - 1))) e x
 

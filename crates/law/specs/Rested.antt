@@ -9,7 +9,7 @@ use Rattle.shape.specs.Sizes.{boundary}
 use Rattle.steps.specs.Steps.{Table}
 use Rattle.window.specs.Window.{size, at, place, detector}
 use Rattle.window.specs.declared.Window.{Window}
-use Rattle.closure.specs.Suited.{Suited}
+use Rattle.steps.specs.Suited.{Suited}
 use Rattle.closure.specs.Facts.{facts}
 use Rattle.closure.specs.Closure.{Kept}
 use Rattle.law.specs.Law.{Joined, alone, IsRoot, Leads, arrived, along, Cluster, Rested}

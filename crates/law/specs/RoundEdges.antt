@@ -8,28 +8,26 @@ use mathlib.Core.Logic.{⊎-elim}
 use borrow.Author.Tests.{eq-eqb}
 use lib.Dec.{eqb}
 use lib.ListN.{length, getD}
+use Rattle.layers.specs.Layers.{edgeOf, layerEdges, nodeOf}
 use Rattle.shape.specs.Choice.{tell, order}
 use Rattle.shape.specs.Ranges.{Ranged}
-use Rattle.shape.specs.Sizes.{layerEdgesOf}
-use Rattle.steps.specs.Steps.{Table, goes}
+use Rattle.steps.specs.Steps.{Table, goes, namer}
 use Rattle.steps.specs.Joins.{Clear}
-use Rattle.layers.specs.Layer.{edgeOf}
-use Rattle.layers.specs.LawsEdge.{nodeOf}
 use Rattle.window.specs.Lists.{bit}
 use Rattle.window.specs.LawsLists.{getD-by, and-no, and-not}
-use Rattle.window.specs.Window.{namer, present, reach}
+use Rattle.window.specs.Window.{present, reach}
 use Rattle.window.specs.Round.{edgeSlot, rounded, committedEdges as leaving}
 use Rattle.closure.specs.Lists.{other}
 use Rattle.closure.specs.Facts.{Facts}
-use Rattle.closure.specs.Suited.{Suited}
+use Rattle.steps.specs.Suited.{Suited}
+use Rattle.law.specs.Layered.{layered}
 use Rattle.law.specs.Law.{Played, Receipt, Spot, ends, height, distance, sheets, last, receipt, pending}
 use Rattle.law.specs.Rules.{taken}
 use Rattle.law.specs.Bits.{refuted, bit-one}
-use Rattle.law.specs.LowerSlots.{slot-new, slot-old}
+use Rattle.closure.specs.LowerSlots.{slot-new, slot-old}
 use Rattle.law.specs.Spots.{ends-at, in-window}
 use Rattle.law.specs.Receipts.{old-receipt, new-receipt, counts, lower-than, three}
 use Rattle.law.specs.Conserved.{edged, slotOf, corrected, left-edge, held-edge}
-use Rattle.law.specs.Layered.{Layered}
 use Rattle.law.specs.Absent.{unset}
 use Rattle.law.specs.LayerEdges.{way, way-opposed, edged-in, edged-there, edged-clear, named-inside}
 
@@ -40,7 +38,7 @@ there-lower s next j u b m = omega arith
 absent-lower : (s next j k : ℕ) → s ≤ next → min s (next - s) ≤ j → k ≡ j + 1 → k < min s (next + 1 - s) → ⊥
 absent-lower s next j k u b e m = omega arith
 
-module _ (T : Table) (S : Suited T) (L : Layered T) (p : Played) (defects : List ℕ) (f : Facts T (p .window)) where
+module _ (T : Table) (S : Suited T) (p : Played) (defects : List ℕ) (f : Facts T (p .window)) where
   abbrev r : Ranged (height p) (distance p)
   r = f .ranged
 
@@ -59,12 +57,12 @@ module _ (T : Table) (S : Suited T) (L : Layered T) (p : Played) (defects : List
   abbrev s : ℕ
   s = sheets p
 
-  module _ (n i : ℕ) (l : i < layerEdgesOf h d) where
+  module _ (n i : ℕ) (l : i < layerEdges T h d) where
     abbrev kind : ℕ
-    kind = edgeOf h d i .kind
+    kind = edgeOf T h d i .kind
 
     kind-lt : kind < T .kinds
-    kind-lt = L .kind h d i r l
+    kind-lt = layered T S .kind h d i r l
 
     -- a layer that left before
     edge-left : n < count → corrected T after n i ≡ corrected T p n i
@@ -75,7 +73,7 @@ module _ (T : Table) (S : Suited T) (L : Layered T) (p : Played) (defects : List
         left-edge T after n i m' ∙ ap (λ (x : Receipt). eqb (getD (x .edges) i 0) 1) (old-receipt T p defects n m) ∙ sym (left-edge T p n i m)
 
     abbrev bottomBit : Bool
-    bottomBit = getD (p .window .correction) (edgeSlot T h d (s - 1) (edgeOf h d i)) false
+    bottomBit = getD (p .window .correction) (edgeSlot h d (s - 1) (edgeOf T h d i)) false
 
     -- the bottom layer: pending before, committed after
     bottom-after : n ≡ count → corrected T after n i ≡ bottomBit
@@ -85,7 +83,7 @@ module _ (T : Table) (S : Suited T) (L : Layered T) (p : Played) (defects : List
         let m : n < length (after .receipts) = omega arith in
         left-edge T after n i m
         ∙ ap (λ (x : Receipt). eqb (getD (x .edges) i 0) 1) (ap (λ (k : ℕ). receipt after k) e ∙ new-receipt T p defects)
-        ∙ ap (λ (x : ℕ). eqb x 1) (getD-by (λ k. bit (getD (p .window .correction) (edgeSlot T h d (s - 1) (edgeOf h d k)) false)) (layerEdgesOf h d) i 0 l)
+        ∙ ap (λ (x : ℕ). eqb x 1) (getD-by (λ k. bit (getD (p .window .correction) (edgeSlot h d (s - 1) (edgeOf T h d k)) false)) (layerEdges T h d) i 0 l)
         ∙ bit-one bottomBit
 
     bottom-before : n ≡ count → corrected T p n i ≡ bottomBit
@@ -95,12 +93,12 @@ module _ (T : Table) (S : Suited T) (L : Layered T) (p : Played) (defects : List
         let b : last p - n < s = omega arith in
         let j : last p - n ≡ s - 1 = omega arith in
         let g : count ≤ n = omega arith in
-        let there = reach T h d (present (p .window)) (namer T kind) (nodeOf (last p - n) (edgeOf h d i)) .there in
+        let there = reach T h d (present (p .window)) (namer T kind) (nodeOf (last p - n) (edgeOf T h d i)) .there in
         let slot = getD (p .window .correction) (slotOf T p n i) false in
         held-edge T p n i g
         ∙ ap (λ (x : Bool). x && there && slot) (in-window p n a b)
-        ∙ absorbed there slot (unset T S L (p .window) f i l (last p - n) b)
-        ∙ ap (λ (k : ℕ). getD (p .window .correction) (edgeSlot T h d k (edgeOf h d i)) false) j
+        ∙ absorbed there slot (unset T S (p .window) f i l (last p - n) b)
+        ∙ ap (λ (k : ℕ). getD (p .window .correction) (edgeSlot h d k (edgeOf T h d i)) false) j
       where
         absorbed : (x y : Bool) → (x ≡ false → y ≡ false) → true && x && y ≡ y
         absorbed true y f = refl
@@ -129,9 +127,9 @@ module _ (T : Table) (S : Suited T) (L : Layered T) (p : Played) (defects : List
       unfolding rounded
       stays-clear b c =
           let b' : last after - n < present (after .window) = rw lower-by (there-lower s (p .window .next) j (f .next) b upper) in
-          ap₂ (λ (x : Bool) (k : ℕ). x && getD (after .window .correction) (edgeSlot T h d k (edgeOf h d i)) false) (edged-in T L after r n i l not-later b' (clear-lower c)) lower-by
-          ∙ slot-old T (p .window) r false (p .window .correction) kind kind-lt (nodeOf j (edgeOf h d i)) (named-inside T S L h d i r l s (j + 1) upper) c
-          ∙ sym (ap (λ (x : Bool). x && getD (p .window .correction) (slotOf T p n i) false) (edged-in T L p r n i l high b c))
+          ap₂ (λ (x : Bool) (k : ℕ). x && getD (after .window .correction) (edgeSlot h d k (edgeOf T h d i)) false) (edged-in T S after r n i l not-later b' (clear-lower c)) lower-by
+          ∙ slot-old T (p .window) r false (p .window .correction) kind kind-lt (nodeOf j (edgeOf T h d i)) (named-inside T S h d i r l s (j + 1) upper) c
+          ∙ sym (ap (λ (x : Bool). x && getD (p .window .correction) (slotOf T p n i) false) (edged-in T S p r n i l high b c))
 
       -- nothing is pending where the edge is absent, before and after
       stays-absent : present (p .window) ≤ j → pending T after n i ≡ pending T p n i
@@ -148,8 +146,8 @@ module _ (T : Table) (S : Suited T) (L : Layered T) (p : Played) (defects : List
           let m : j + 1 < s = omega arith in
           let z : goes (way T h d i .sheet) (j + 1) ≡ 0 = omega arith in
           and-no (edged T after n i) _
-          (ap (λ (k : ℕ). getD (after .window .correction) (edgeSlot T h d k (edgeOf h d i)) false) lower-by
-          ∙ slot-new T (p .window) r false (p .window .correction) kind kind-lt (nodeOf (j + 1) (edgeOf h d i)) (named-inside T S L h d i r l s (j + 1) m) (other (eqb (j + 1) 0) _ (eq-eqb _ 0 z)))
+          (ap (λ (k : ℕ). getD (after .window .correction) (edgeSlot h d k (edgeOf T h d i)) false) lower-by
+          ∙ slot-new T (p .window) r false (p .window .correction) kind kind-lt (nodeOf (j + 1) (edgeOf T h d i)) (named-inside T S h d i r l s (j + 1) m) (other (eqb (j + 1) 0) _ (eq-eqb _ 0 z)))
           ∙ sym (and-not (edged T p n i) _ (refuted (edged T p n i) (λ x. let y = edged-clear T p n i x in omega arith)))
 
       edge-stays : corrected T after n i ≡ corrected T p n i
@@ -177,23 +175,23 @@ module _ (T : Table) (S : Suited T) (L : Layered T) (p : Played) (defects : List
         let o : 0 < s = omega arith in
         held-edge T after n i g
         ∙ and-no (edged T after n i) _
-        (ap (λ (k : ℕ). getD (after .window .correction) (edgeSlot T h d k (edgeOf h d i)) false) z
-        ∙ slot-new T (p .window) r false (p .window .correction) kind kind-lt (nodeOf 0 (edgeOf h d i)) (named-inside T S L h d i r l s 0 o) refl)
+        (ap (λ (k : ℕ). getD (after .window .correction) (edgeSlot h d k (edgeOf T h d i)) false) z
+        ∙ slot-new T (p .window) r false (p .window .correction) kind kind-lt (nodeOf 0 (edgeOf T h d i)) (named-inside T S h d i r l s 0 o) refl)
 
 -- nothing ends above the last round
-module _ (T : Table) (S : Suited T) (L : Layered T) (p : Played) (r : Ranged (height p) (distance p)) (n i : ℕ) (l : i < layerEdgesOf (height p) (distance p)) where
-  pub ends-below : (a : Spot) → a .round ≡ last p + 1 → n ≤ last p → (corrected T p n i && ends T n (edgeOf (height p) (distance p) i) a) ≡ false
-  ends-below a e m = ⊎-elim yes (λ x. and-no (corrected T p n i) _ x) (tell (ends T n (edgeOf (height p) (distance p) i) a))
+module _ (T : Table) (S : Suited T) (p : Played) (r : Ranged (height p) (distance p)) (n i : ℕ) (l : i < layerEdges T (height p) (distance p)) where
+  pub ends-below : (a : Spot) → a .round ≡ last p + 1 → n ≤ last p → (corrected T p n i && ends T n (edgeOf T (height p) (distance p) i) a) ≡ false
+  ends-below a e m = ⊎-elim yes (λ x. and-no (corrected T p n i) _ x) (tell (ends T n (edgeOf T (height p) (distance p) i) a))
     where
       no-bit : n + way T (height p) (distance p) i .sheet .less - way T (height p) (distance p) i .sheet .more ≡ a .round → corrected T p n i ≡ false
       no-bit f =
           let t = three p r in
-          let rise = way-opposed T S L (height p) (distance p) i r l .rise in
+          let rise = way-opposed T S (height p) (distance p) i r l .rise in
           let g : length (p .receipts) ≤ n = omega (arith, rise) in
           let top : Clear (way T (height p) (distance p) i .sheet) (last p - n) → ⊥ = λ x. omega (arith, rise) in
           held-edge T p n i g ∙ and-not (edged T p n i) _ (refuted (edged T p n i) (λ x. top (edged-clear T p n i x)))
 
-      yes : ends T n (edgeOf (height p) (distance p) i) a ≡ true → (corrected T p n i && ends T n (edgeOf (height p) (distance p) i) a) ≡ false
+      yes : ends T n (edgeOf T (height p) (distance p) i) a ≡ true → (corrected T p n i && ends T n (edgeOf T (height p) (distance p) i) a) ≡ false
       yes x =
           and-not (corrected T p n i) _
-          (⊎-elim (λ y. let z = ap (λ (b : Spot). b .round) y in absurd (omega arith)) (λ y. no-bit (ap (λ (b : Spot). b .round) y)) (ends-at T n (edgeOf (height p) (distance p) i) a x))
+          (⊎-elim (λ y. let z = ap (λ (b : Spot). b .round) y in absurd (omega arith)) (λ y. no-bit (ap (λ (b : Spot). b .round) y)) (ends-at T n (edgeOf T (height p) (distance p) i) a x))

@@ -8,8 +8,9 @@ use mathlib.Core.Bool.{true, false}
 use mathlib.Core.List.{List, [], _∷_}
 use Rattle.refusal.specs.Laws.{undone}
 use Rattle.list.specs.Sheet as list
-use Rattle.layers.specs.Layer as layer
+use Rattle.layers.specs.Layers as layers
 use Rattle.shape.specs.Nodes as nodes
+use Rattle.steps.specs.Ranks as ranks
 use Rattle.steps.specs.Steps as steps
 use Rattle.steps.specs.Steps.{base}
 use Rattle.window.specs.Calls as calls
@@ -65,7 +66,7 @@ empties zero = []
 empties (suc n) = takes 0 ∷ law.run 65536 ∷ empties n
 
 abbrev pub none : Window
-none = fresh.freshWindow (record { height = 1; distance = 2 })
+none = fresh.freshWindow base (record { height = 1; distance = 2 })
 
 -- the round with the defect, then so many empty ones
 unfoldable pub tie : ℕ → Played
@@ -92,7 +93,7 @@ ungrown =
 
 -- all the rules, for `unfolding`
 unfoldable pub opened : ℕ
-unfolding empties tie ungrown list.areBits nodes.indexOf nodes.placeAt nodes.numberOf nodes.placeOf steps.base steps.across steps.joined steps.near steps.slot layer.edgeOf lists.from lists.byPlace lists.every lists.any lists.all window.reach window.naming fresh.freshWindow formed.pointerFits formed.nodeFits formed.slotFitsAt formed.wellFormed round.committedEdges round.escapedDefects round.loweredNumber round.topNode round.fallenNode round.fallenSlot round.rounded measured.differences measured.asSheet measured.measuring grow.grownSlot grow.grownNode grow.grown merging.sees merging.syncedActive merging.arrivals merging.scan merging.floods merging.stepped merging.seen merging.stepAt merging.flippedSlot merging.merged run.stepsFrom run.ran calls.roundCall calls.rawCall calls.runCall law.play law.sum
+unfolding empties tie ungrown list.areBits nodes.indexOf nodes.placeAt nodes.numberOf nodes.placeOf steps.base steps.across steps.joined steps.near steps.slot steps.naming ranks.rank ranks.pick layers.spans layers.edgeOf layers.layerEdges lists.from lists.byPlace lists.every lists.any lists.all window.reach fresh.freshWindow formed.pointerFits formed.nodeFits formed.slotFitsAt formed.wellFormed round.committedEdges round.escapedDefects round.loweredNumber round.topNode round.fallenNode round.fallenSlot round.rounded measured.differences measured.asSheet measured.measuring grow.grownSlot grow.grownNode grow.grown merging.sees merging.syncedActive merging.arrivals merging.scan merging.floods merging.stepped merging.seen merging.stepAt merging.flippedSlot merging.merged run.stepsFrom run.ran calls.roundCall calls.rawCall calls.runCall law.play law.sum
 opened = 0
 
 pub record Met : Type 0 where

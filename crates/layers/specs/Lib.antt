@@ -1,5 +1,7 @@
+pub mod Layers
+pub mod Boxes
 pub mod Layer
 pub mod Limits
 pub mod Cases
 pub mod LawsLayer
-pub mod LawsEdge
+pub mod Document

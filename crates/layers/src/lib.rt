@@ -2,7 +2,9 @@
 use shape::Shape;
 ghost use mathlib.Core.Path.{_≡_};
 ghost use mathlib.Core.Bool.{true};
-ghost use Rattle.layers.specs.Layer.{edgeIn as edgeOn, isEdge, edgeOf, edgeAt};
+ghost use Rattle.steps.specs.Steps.{base};
+ghost use Rattle.layers.specs.Layers.{isEdge, edgeOf, edgeAt};
+ghost use Rattle.layers.specs.Layer.{edgeOn};
 ghost use Rattle.layers.specs.Limits.{Rowed};
 
 // An edge of a layer: 0 along a row, 1 between rows, else to the sheet above; with the place of its west, north or lower end.
@@ -29,9 +31,10 @@ fn edge_in(kind: u8, w: usize, first: u8, n: usize) -> Edge
     }
 }
 
-fn edge_of(shape: Shape, e: usize) -> Edge
-    requires { ⌜ isEdge (shape .height) (shape .distance) e ≡ true ⌝ }
-    ensures { λ r. ⌜ r ≡ edgeOf (shape .height) (shape .distance) e ⌝ }
+// The edge of a number.
+pub fn edge_of(shape: Shape, e: usize) -> Edge
+    requires { ⌜ isEdge base (shape .height) (shape .distance) e ≡ true ⌝ }
+    ensures { λ r. ⌜ r ≡ edgeOf base (shape .height) (shape .distance) e ⌝ }
 {
     let d = shape::wide(shape.distance);
     let inner = shape::less_one(shape.distance);
@@ -46,8 +49,9 @@ fn edge_of(shape: Shape, e: usize) -> Edge
     edge_in(2, inner, 1, e - own)
 }
 
+// The same, of any shape and number.
 pub fn edge_at(shape: Shape, e: usize) -> EdgeFound
-    ensures { λ r. ⌜ r ≡ edgeAt (shape .height) (shape .distance) e ⌝ }
+    ensures { λ r. ⌜ r ≡ edgeAt base (shape .height) (shape .distance) e ⌝ }
 {
     if !(shape::ranged(shape) & (e < shape::layer_edges(shape))) {
         return EdgeFound::Nothing;

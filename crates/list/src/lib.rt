@@ -1,11 +1,10 @@
 // Sheet lists: one byte an entry, 0 or 1, in a buffer; in a stream the count of set entries and the entries skipped before each.
 // Here is their reader.
 ghost use mathlib.Core.Path.{_≡_};
-ghost use mathlib.Core.Bool.{true};
 ghost use lib.ListN.{length, replicate};
-ghost use Rattle.refusal.specs.Answer.{isDone, withoutValue, valueOr, itself};
+ghost use Rattle.refusal.specs.Answer.{withoutValue};
 ghost use Rattle.number.specs.Number.{numberAnswer};
-ghost use Rattle.list.specs.Sheet.{listAnswer, listBuffered, listAt, readList};
+ghost use Rattle.list.specs.Sheet.{listAnswer, listBuffered, listAt, readInto, readList};
 use number::Read;
 use refusal::Refusal;
 
@@ -65,40 +64,57 @@ fn clear(out: &mut [u8])
     }
 }
 
-// Stores a list that can be read.
-fn store_list(src: &[u8], at: usize, out: &mut [u8])
-    requires { ⌜ isDone (listAt (now src) (length (now out)) at) ≡ true ⌝ }
-    ensures { λ _. ⌜ now (out .exit) ≡ valueOr (listAt (now (src .entry)) (length (now (out .entry))) at) itself (now (out .entry)) ⌝ }
+// Reads a list of as many entries as the buffer has bytes into a buffer that is all 0, in one pass. Where it is refused, the buffer's entries
+// are free: those before the refusal are set.
+pub fn take_list(src: &[u8], at: usize, out: &mut [u8]) -> Listed
+    requires { ⌜ now out ≡ replicate (length (now out)) 0 ⌝ }
+    ensures { λ r. ⌜ listBuffered r (now (out .exit)) ≡ readInto (listAt (now (src .entry)) (length (now (out .entry))) at) (now (out .exit)) ⌝ }
 {
-    clear(out);
     let count = number::read_number(src, at);
     let Read::Number(n, first) = count else {
-        return;
+        return as_listed(count);
     };
     let mut rest = n as usize;
+    if out.len() < rest {
+        return Listed::Refused(Refusal::Entry(at));
+    }
     let mut next = first;
     let mut from: usize = 0;
     while 0 < rest {
         let skip = number::read_number(src, next);
         let Read::Number(k, behind) = skip else {
-            return;
+            return as_listed(skip);
         };
-        from = from + k as usize;
+        let place = next;
+        let skipped = k as usize;
+        if out.len() - from <= skipped {
+            return Listed::Refused(Refusal::Entry(place));
+        }
+        from = from + skipped;
         out[from] = 1;
         from += 1;
         next = behind;
         rest -= 1;
     }
+    Listed::To(next)
 }
 
-// Reads a list of as many entries as the buffer has bytes. Nothing is stored before all of it has been read.
+// The same into any buffer, which is cleared first.
+pub fn store_list(src: &[u8], at: usize, out: &mut [u8]) -> Listed
+    ensures { λ r. ⌜ listBuffered r (now (out .exit)) ≡ readInto (listAt (now (src .entry)) (length (now (out .entry))) at) (now (out .exit)) ⌝ }
+{
+    clear(out);
+    take_list(src, at, out)
+}
+
+// Reads a list of as many entries as the buffer has bytes. Nothing is stored before all of it has been read, so the stream's numbers are
+// passed over twice: a buffer must stay as it was where the list is refused.
 pub fn read_list(src: &[u8], at: usize, out: &mut [u8]) -> Listed
     ensures { λ r. ⌜ listBuffered r (now (out .exit)) ≡ readList (now (src .entry)) at (now (out .entry)) ⌝ }
 {
     let scanned = scan_list(src, at, out.len());
-    let Listed::To(next) = scanned else {
-        return scanned;
-    };
-    store_list(src, at, out);
-    Listed::To(next)
+    if let Listed::Refused(f) = scanned {
+        return Listed::Refused(f);
+    }
+    store_list(src, at, out)
 }

@@ -106,6 +106,15 @@ pub number-in : (s : List ℕ) (at : ℕ) → at ≤ length s → numberAt s at 
 unfolding numberAt
 number-in s at h = rw (le-leb at (length s) h) refl
 
+-- one group alone
+pub number-one : (s : List ℕ) (at : ℕ) → at < length s → getD s at 0 < 128 → numberAt s at ≡ done (getD s at 0) (at + 1)
+number-one s at h k =
+    let v : 0 + 1 * getD s at 0 ≡ getD s at 0 = omega arith in
+    number-in s at (omega arith)
+    ∙ group-last s at most 1 0 at (omega arith) h k
+    ∙ last-value at 1 0 (getD s at 0) (at + 1) refl (omega arith)
+    ∙ ap (λ (n : ℕ). done n (at + 1)) v
+
 -- what a one counts where so many groups may still come
 abbrev pub weighs : ℕ → ℕ
 weighs left = 2 ^ (7 * (most - left))

@@ -39,8 +39,8 @@ fn last_group(first: usize, weight: u64, sum: u64, x: u64, next: usize) -> Read
     Read::Number(value as u32, next)
 }
 
-// The number at an offset.
-pub fn read_number(src: &[u8], at: usize) -> Read
+// The number at an offset, group by group.
+fn read_groups(src: &[u8], at: usize) -> Read
     ensures { λ r. ⌜ numberAnswer r ≡ numberAt (now (src .entry)) at ⌝ }
 {
     if src.len() < at {
@@ -64,6 +64,19 @@ pub fn read_number(src: &[u8], at: usize) -> Read
         left -= 1;
     }
     Read::Refused(Refusal::Form(at))
+}
+
+// The number at an offset. One group alone, as almost every skip is, is told by its byte.
+pub fn read_number(src: &[u8], at: usize) -> Read
+    ensures { λ r. ⌜ numberAnswer r ≡ numberAt (now (src .entry)) at ⌝ }
+{
+    if at < src.len() {
+        let only = src[at];
+        if only < 128 {
+            return Read::Number(only as u32, at + 1);
+        }
+    }
+    read_groups(src, at)
 }
 
 // How many groups a number has.

@@ -1,7 +1,7 @@
 -- What one record leaves, by its tests, its end, and what reading its round found. Assumes nothing.
 use Prim.Native.Nat.{ℕ, _-_, _≤_, _<_}
 use mathlib.Core.Path.{_≡_, sym, _∙_, ap}
-use mathlib.Core.Bool.{Bool, false}
+use mathlib.Core.Bool.{Bool}
 use mathlib.Core.List.{List}
 use lib.ListN.{length}
 use Rattle.refusal.specs.Answer.{Answer, done, plain, codeOf, turned, unless, andThen, withoutValue, valueOr, itself}
@@ -10,7 +10,7 @@ use Rattle.refusal.specs.Laws.{turned-on, done-on}
 use Rattle.refusal.specs.Tests.{Passes}
 use Rattle.refusal.specs.Writing.{Buffered}
 use Rattle.refusal.specs.declared.Refusal.{Refusal}
-use Rattle.list.specs.Sheet.{readInto, listAt, readList, listBuffered, listAnswer}
+use Rattle.list.specs.Sheet.{readInto, listAt, listBuffered, listAnswer}
 use Rattle.list.specs.Trip.{ListWrites, list-writes}
 use Rattle.list.specs.declared.Listed.{Listed}
 use Rattle.list.specs.declared.Listed.the-variants as listed
@@ -19,23 +19,21 @@ use Rattle.record.specs.Laws.{before-end}
 use Rattle.record.specs.Records.{roundAt}
 use Rattle.window.specs.Window.{maxNext}
 use Rattle.window.specs.Calls.{callAnswer}
-use Rattle.window.specs.Formed.{wellFormed}
 use Rattle.window.specs.declared.Called.{Called}
 use Rattle.window.specs.declared.Called.the-variants as called
 use Rattle.window.specs.declared.Window.{Window}
-use Rattle.closure.specs.Suited.{suited-base}
+use Rattle.steps.specs.Models.{suited-base}
 use Rattle.decoding.specs.Decoding.{finished, turnedBack, Turn, turnOf, Recorded, stopped, recorded, turnAt, recordTests, recordAt}
 use Rattle.decoding.specs.Answers.{RecordReturned as Leaving, recordReturned, recordedLeaves, recordLeaves, over}
 use Rattle.decoding.specs.LawsTurn.{detectors, onBytes, turn-steps, turn-done}
-use Rattle.decoding.specs.LawsDecoding.{recorded-turned, record-unformed, record-turned, record-ends, record-last, record-turn}
+use Rattle.decoding.specs.LawsDecoding.{recorded-turned, record-turned, record-ends, record-last, record-turn}
 use Rattle.one_record.proofs.Tested.{Fine, fine-pass, tests-told, tests-pass}
 
 -- a round that was read where the tests passed and bytes are left, into a part of so many bytes
 pub record Read (s : List ℕ) (w : Window) (at : ℕ) (old : List ℕ) (to : ℕ) (q : Listed) (new : List ℕ) : Type 0 where
   pub fine : Fine s (length old) w at to
   pub part : List ℕ
-  pub long : length part ≡ detectors w
-  pub read : listBuffered q new ≡ readList s at part
+  pub read : listBuffered q new ≡ readInto (listAt s (detectors w) at) part
 
 module _ (s : List ℕ) (w : Window) (at : ℕ) (old : List ℕ) (to : ℕ) where
   abbrev tests : List (Bool × ℕ)
@@ -49,9 +47,6 @@ module _ (s : List ℕ) (w : Window) (at : ℕ) (old : List ℕ) (to : ℕ) wher
 
   as-record : (x : Recorded) → recordAt base s (length old) w at to ≡ x → recordedLeaves x w old to ≡ whole
   as-record x e = sym (ap (λ (y : Recorded). recordedLeaves y w old to) e)
-
-  pub record-bad : wellFormed base w ≡ false → recordReturned (over (turnedBack (plain 21))) w old ≡ whole
-  record-bad f = as-record (stopped (turnedBack (plain 21))) (record-unformed base s (length old) w at to f)
 
   module _ (r : Called) (as-told : callAnswer r ≡ unless tests (done tt 0)) where
     pub record-refused : (f : Refusal) → r ≡ called.Refused f → recordReturned (over (turnedBack (codeOf f))) w old ≡ whole
@@ -81,7 +76,7 @@ module _ (s : List ℕ) (w : Window) (at : ℕ) (old : List ℕ) (to : ℕ) wher
         (record-turn base s (length old) w at to (fine-pass s (length old) w at to (r .fine)) (r .fine .inside) (r .fine .next) ∙ ap (recorded room) e)
 
     found : listBuffered q new ≡ readInto list (r .part)
-    found = r .read ∙ ap (λ (n : ℕ). readInto (listAt s n at) (r .part)) (r .long)
+    found = r .read
 
     answers : withoutValue list ≡ listAnswer q
     answers = sym (ap (λ (x : Buffered). x .answer) found)

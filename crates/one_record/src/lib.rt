@@ -1,100 +1,261 @@
-// One record of the decoding: its tests, the end, the last round, and then the round that is read.
+// One record of the decoding, on the machine's arrays: its tests, the end, the last round, and then the round that is read.
 use decoding::Ending;
 use decoding::Record;
-use decoding::RecordGiven;
+use flat::LISTS;
+use flat::PLANE;
+use flat::PLANES;
+use flat::Sizes;
+use flat::TABLE;
 use list::Listed;
+use number::Wrote;
 use refusal::Refusal;
 use shape::MAX_DETECTORS;
-use window::Called;
+use shape::Shape;
 use window::MAX_NEXT;
-use window::Window;
 ghost use mathlib.Core.Path.{_≡_};
 ghost use mathlib.Core.Bool.{true};
 ghost use Prim.Native.Nat.{_<_, _≤_};
 ghost use lib.ListN.{length};
-ghost use Rattle.refusal.specs.Answer.{done, unless};
+ghost use Rattle.shape.specs.Sizes.{inRange, detectorsOf};
 ghost use Rattle.steps.specs.Steps.{base};
-ghost use Rattle.window.specs.Calls.{callAnswer};
-ghost use Rattle.window.specs.Formed.{wellFormed};
-ghost use Rattle.window.specs.Window.{isRest, maxNext};
-ghost use Rattle.decoding.specs.Decoding.{recordTests};
-ghost use Rattle.decoding.specs.Answers.{recordAnswer, recordReturned, recordLeaves};
+ghost use Rattle.window.specs.Window.{maxNext};
+ghost use Rattle.decoding.specs.Answers.{recordAnswer};
+ghost use Rattle.flat.specs.Entries.{stateOf, Long};
+ghost use Rattle.flat.specs.Plan.{planOf};
+ghost use Rattle.flat.specs.Step.{listAt};
+ghost use Rattle.plan.specs.Table.{sizesOf};
+ghost use Rattle.plan.specs.Filled.{Filled};
+ghost use Rattle.round_step.specs.Falls.{NoneOutside};
+ghost use Rattle.turn.specs.Turned.{Scratch};
+ghost use Rattle.one_record.specs.RecordOn.{HeldAt, RoundOn, RecordOn};
 
-// The tests of a record before the end, of a well-formed window: 22, and 10 for both slices.
-fn test_record(w: Window, src: &[u8], at: usize, size: usize, to: usize) -> Called
-    requires { ⌜ wellFormed base w ≡ true ⌝ }
-    ensures { λ r. ⌜ callAnswer r ≡ unless (recordTests base (now (src .entry)) size w at to) (done tt 0) ⌝ }
-{
-    let stage = w.stage;
-    if !window::is_rest(stage) {
-        return Called::Refused(Refusal::WrongStage);
-    }
-    if src.len() < at {
-        return Called::Refused(Refusal::Offset);
-    }
-    if size < to {
-        return Called::Refused(Refusal::Offset);
-    }
-    Called::Done
+// What the arrays hold of a window besides its nodes and edges: its next round, whether its pointers ride on open edges, and how many nodes are live.
+pub struct Held {
+    pub next: u32,
+    pub rides: bool,
+    pub live: usize,
 }
 
-// Reads the round at an offset, where the tests passed and bytes are left, receives it, runs the window, and writes the record.
-fn decode_read(w: Window, src: &[u8], at: usize, out: &mut [u8], to: usize) -> RecordGiven
-    requires { ⌜ wellFormed base w ≡ true ⌝ }
-    requires { ⌜ isRest (w .stage) ≡ true ⌝ }
-    requires { ⌜ w .next < maxNext ⌝ }
+// The record, and what the other set holds if it was written.
+pub struct RecordGiven {
+    pub answer: Record,
+    pub held: Held,
+}
+
+// Receives a round that was read, up to an offset, and writes its record from an offset on.
+fn round_on(
+    shape: Shape,
+    z: Sizes,
+    held: Held,
+    bytes: &[u8],
+    behind: usize,
+    out: &mut [u8],
+    to: usize,
+    old_nodes: &[u8; PLANE],
+    old_marks: &[u16; PLANE],
+    old_edges: &[u8; PLANES],
+    nodes: &mut [u8; PLANE],
+    marks: &mut [u16; PLANE],
+    edges: &mut [u8; PLANES],
+    table: &[u16; TABLE],
+    lists: &mut [u16; LISTS],
+    queued: &mut [bool; PLANE],
+    words: &mut [u32; PLANE],
+) -> RecordGiven
+    requires { ⌜ inRange (shape .height) (shape .distance) ≡ true ⌝ }
+    requires { ⌜ z ≡ sizesOf base (shape .height) (shape .distance) ⌝ }
+    requires { ⌜ Filled base (shape .height) (shape .distance) (now table) ⌝ }
+    requires { ⌜ Long (now nodes) (now marks) (now edges) ⌝ }
+    requires { ⌜ NoneOutside base (shape .height) (shape .distance) (now edges) ⌝ }
+    requires { ⌜ Scratch (now lists) (now queued) (now words) ⌝ }
+    requires { ⌜ held .live ≤ 4608 ⌝ }
+    requires { ⌜ HeldAt (planOf z (now table)) shape (held .next) (stateOf (now «old_nodes») (now «old_marks») (now «old_edges»)) (held .rides) (held .live) (listAt (now lists) 9216) ⌝ }
+    requires { ⌜ held .next < maxNext ⌝ }
+    requires { ⌜ length (now bytes) ≡ detectorsOf (shape .height) (shape .distance) ⌝ }
+    requires { ⌜ to ≤ length (now out) ⌝ }
+    ensures { λ r. ⌜ Scratch (now (lists .exit)) (now (queued .exit)) (now (words .exit)) ⌝ }
+    ensures { λ r. ⌜ r .held .rides ≡ held .rides ⌝ }
+    ensures { λ r. ⌜ RoundOn (planOf z (now (table .entry))) shape (held .next) (stateOf (now («old_nodes» .entry)) (now («old_marks» .entry)) (now («old_edges» .entry))) (held .rides) (held .live) (listAt (now (lists .entry)) 9216) (now (bytes .entry)) behind (now (out .entry)) to (recordAnswer (r .answer)) (now (out .exit)) (r .held .next) (r .held .live) (now (nodes .exit)) (now (marks .exit)) (now (edges .exit)) (listAt (now (lists .exit)) 9216) ⌝ }
+{
+    let second = round_step::second(shape, held.next);
+    let turn = turn::turn(
+        shape,
+        z,
+        second,
+        held.rides,
+        held.live,
+        bytes,
+        old_nodes,
+        old_marks,
+        old_edges,
+        nodes,
+        marks,
+        edges,
+        table,
+        lists,
+        queued,
+        words,
+    );
+    let after = Held {
+        next: held.next + 1,
+        rides: held.rides,
+        live: turn.live,
+    };
+    if !turn.rest {
+        return RecordGiven {
+            answer: Record::Stopped(Ending::Spent),
+            held: after,
+        };
+    }
+    match write_round::write(shape, z, turn.count, old_nodes, old_edges, table, out, to) {
+        Wrote::Not(f) => RecordGiven {
+            answer: Record::Stopped(Ending::Refused(f)),
+            held: after,
+        },
+        Wrote::To(end) => RecordGiven {
+            answer: Record::Written(behind, end),
+            held: after,
+        },
+    }
+}
+
+// Reads the round at an offset, where bytes are left and a round can follow.
+fn read_on(
+    shape: Shape,
+    z: Sizes,
+    held: Held,
+    src: &[u8],
+    at: usize,
+    out: &mut [u8],
+    to: usize,
+    old_nodes: &[u8; PLANE],
+    old_marks: &[u16; PLANE],
+    old_edges: &[u8; PLANES],
+    nodes: &mut [u8; PLANE],
+    marks: &mut [u16; PLANE],
+    edges: &mut [u8; PLANES],
+    table: &[u16; TABLE],
+    lists: &mut [u16; LISTS],
+    queued: &mut [bool; PLANE],
+    words: &mut [u32; PLANE],
+) -> RecordGiven
+    requires { ⌜ inRange (shape .height) (shape .distance) ≡ true ⌝ }
+    requires { ⌜ z ≡ sizesOf base (shape .height) (shape .distance) ⌝ }
+    requires { ⌜ Filled base (shape .height) (shape .distance) (now table) ⌝ }
+    requires { ⌜ Long (now nodes) (now marks) (now edges) ⌝ }
+    requires { ⌜ NoneOutside base (shape .height) (shape .distance) (now edges) ⌝ }
+    requires { ⌜ Scratch (now lists) (now queued) (now words) ⌝ }
+    requires { ⌜ held .live ≤ 4608 ⌝ }
+    requires { ⌜ HeldAt (planOf z (now table)) shape (held .next) (stateOf (now «old_nodes») (now «old_marks») (now «old_edges»)) (held .rides) (held .live) (listAt (now lists) 9216) ⌝ }
+    requires { ⌜ held .next < maxNext ⌝ }
     requires { ⌜ at < length (now src) ⌝ }
     requires { ⌜ to ≤ length (now out) ⌝ }
-    ensures { λ r. ⌜ recordReturned (recordAnswer (r .answer)) (r .window) (now (out .exit)) ≡ recordLeaves base (now (src .entry)) w at (now (out .entry)) to ⌝ }
+    ensures { λ r. ⌜ Scratch (now (lists .exit)) (now (queued .exit)) (now (words .exit)) ⌝ }
+    ensures { λ r. ⌜ r .held .rides ≡ held .rides ⌝ }
+    ensures { λ r. ⌜ RecordOn (planOf z (now (table .entry))) shape (held .next) (stateOf (now («old_nodes» .entry)) (now («old_marks» .entry)) (now («old_edges» .entry))) (held .rides) (held .live) (listAt (now (lists .entry)) 9216) (now (src .entry)) at (now (out .entry)) to (recordAnswer (r .answer)) (now (out .exit)) (r .held .next) (r .held .live) (now (nodes .exit)) (now (marks .exit)) (now (edges .exit)) (listAt (now (lists .exit)) 9216) ⌝ }
 {
-    let n = shape::detectors(w.shape);
+    let n = shape::detectors(shape);
     let mut bytes = [0; MAX_DETECTORS];
-    match list::read_list(src, at, &mut bytes[..n]) {
+    match list::take_list(src, at, &mut bytes[..n]) {
         Listed::Refused(f) => RecordGiven {
             answer: Record::Stopped(Ending::Refused(f)),
-            window: w,
+            held,
         },
-        Listed::To(next) => turn::decode_round(w, &bytes[..n], next, out, to),
+        Listed::To(behind) => round_on(
+            shape,
+            z,
+            held,
+            &bytes[..n],
+            behind,
+            out,
+            to,
+            old_nodes,
+            old_marks,
+            old_edges,
+            nodes,
+            marks,
+            edges,
+            table,
+            lists,
+            queued,
+            words,
+        ),
     }
 }
 
-// Decodes one record of a well-formed window: its tests, the end, the last round, then the round.
-pub fn decode_formed(w: Window, src: &[u8], at: usize, out: &mut [u8], to: usize) -> RecordGiven
-    requires { ⌜ wellFormed base w ≡ true ⌝ }
-    ensures { λ r. ⌜ recordReturned (recordAnswer (r .answer)) (r .window) (now (out .exit)) ≡ recordLeaves base (now (src .entry)) w at (now (out .entry)) to ⌝ }
+// One record of a window that is held: the offsets, the end, the last round, then the round.
+pub fn record_on(
+    shape: Shape,
+    z: Sizes,
+    held: Held,
+    src: &[u8],
+    at: usize,
+    out: &mut [u8],
+    to: usize,
+    old_nodes: &[u8; PLANE],
+    old_marks: &[u16; PLANE],
+    old_edges: &[u8; PLANES],
+    nodes: &mut [u8; PLANE],
+    marks: &mut [u16; PLANE],
+    edges: &mut [u8; PLANES],
+    table: &[u16; TABLE],
+    lists: &mut [u16; LISTS],
+    queued: &mut [bool; PLANE],
+    words: &mut [u32; PLANE],
+) -> RecordGiven
+    requires { ⌜ inRange (shape .height) (shape .distance) ≡ true ⌝ }
+    requires { ⌜ z ≡ sizesOf base (shape .height) (shape .distance) ⌝ }
+    requires { ⌜ Filled base (shape .height) (shape .distance) (now table) ⌝ }
+    requires { ⌜ Long (now nodes) (now marks) (now edges) ⌝ }
+    requires { ⌜ NoneOutside base (shape .height) (shape .distance) (now edges) ⌝ }
+    requires { ⌜ Scratch (now lists) (now queued) (now words) ⌝ }
+    requires { ⌜ held .live ≤ 4608 ⌝ }
+    requires { ⌜ HeldAt (planOf z (now table)) shape (held .next) (stateOf (now «old_nodes») (now «old_marks») (now «old_edges»)) (held .rides) (held .live) (listAt (now lists) 9216) ⌝ }
+    ensures { λ r. ⌜ Scratch (now (lists .exit)) (now (queued .exit)) (now (words .exit)) ⌝ }
+    ensures { λ r. ⌜ r .held .rides ≡ held .rides ⌝ }
+    ensures { λ r. ⌜ RecordOn (planOf z (now (table .entry))) shape (held .next) (stateOf (now («old_nodes» .entry)) (now («old_marks» .entry)) (now («old_edges» .entry))) (held .rides) (held .live) (listAt (now (lists .entry)) 9216) (now (src .entry)) at (now (out .entry)) to (recordAnswer (r .answer)) (now (out .exit)) (r .held .next) (r .held .live) (now (nodes .exit)) (now (marks .exit)) (now (edges .exit)) (listAt (now (lists .exit)) 9216) ⌝ }
 {
-    let next = w.next;
-    let tested = test_record(w, src, at, out.len(), to);
-    if let Called::Refused(f) = tested {
+    if src.len() < at {
         return RecordGiven {
-            answer: Record::Stopped(Ending::Refused(f)),
-            window: w,
+            answer: Record::Stopped(Ending::Refused(Refusal::Offset)),
+            held,
+        };
+    }
+    if out.len() < to {
+        return RecordGiven {
+            answer: Record::Stopped(Ending::Refused(Refusal::Offset)),
+            held,
         };
     }
     if src.len() <= at {
         return RecordGiven {
             answer: Record::Stopped(Ending::Finished),
-            window: w,
+            held,
         };
     }
-    if next == MAX_NEXT {
+    if held.next == MAX_NEXT {
         return RecordGiven {
             answer: Record::Stopped(Ending::Refused(Refusal::LastRound)),
-            window: w,
+            held,
         };
     }
-    decode_read(w, src, at, out, to)
-}
-
-// Decodes one record: reads the round at an offset, receives it, runs the window, and writes the record from an offset on.
-pub fn decode_record(w: Window, src: &[u8], at: usize, out: &mut [u8], to: usize) -> RecordGiven
-    ensures { λ r. ⌜ recordReturned (recordAnswer (r .answer)) (r .window) (now (out .exit)) ≡ recordLeaves base (now (src .entry)) w at (now (out .entry)) to ⌝ }
-{
-    if !formed::well_formed(w) {
-        return RecordGiven {
-            answer: Record::Stopped(Ending::Refused(Refusal::NotWellFormed)),
-            window: w,
-        };
-    }
-    decode_formed(w, src, at, out, to)
+    read_on(
+        shape,
+        z,
+        held,
+        src,
+        at,
+        out,
+        to,
+        old_nodes,
+        old_marks,
+        old_edges,
+        nodes,
+        marks,
+        edges,
+        table,
+        lists,
+        queued,
+        words,
+    )
 }

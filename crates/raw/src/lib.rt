@@ -5,9 +5,10 @@ ghost use mathlib.Core.Path.{_≡_};
 ghost use mathlib.Core.Bool.{true};
 ghost use Prim.Native.Nat.{_<_, _≤_};
 ghost use lib.ListN.{length};
-ghost use Rattle.shape.specs.Sizes.{inRange, detectorsOf, layerEdgesOf, maxDetectors};
+ghost use Rattle.shape.specs.Sizes.{detectorsOf, layerEdgesOf, maxDetectors};
 ghost use Rattle.steps.specs.Steps.{base};
-ghost use Rattle.window.specs.Window.{maxNext};
+ghost use Rattle.window.specs.Window.{isRest, maxNext};
+ghost use Rattle.window.specs.Formed.{wellFormed};
 ghost use Rattle.window.specs.Measured.{differences as differencesOf, asSheet};
 ghost use Rattle.window.specs.Calls.{asRound, receivingRaw};
 
@@ -40,7 +41,8 @@ fn sheet_of(bytes: &[u8]) -> [bool; MAX_DETECTORS]
 
 // The round is received with the places that differ from the last measured sheet; then the sheet is the bytes.
 pub fn raw(w: Window, bytes: &[u8], edges: &mut [u8], escapes: &mut [u8]) -> Window
-    requires { ⌜ inRange (w .shape .height) (w .shape .distance) ≡ true ⌝ }
+    requires { ⌜ wellFormed base w ≡ true ⌝ }
+    requires { ⌜ isRest (w .stage) ≡ true ⌝ }
     requires { ⌜ w .next < maxNext ⌝ }
     requires { ⌜ length (now bytes) ≡ detectorsOf (w .shape .height) (w .shape .distance) ⌝ }
     requires { ⌜ length (now edges) ≡ layerEdgesOf (w .shape .height) (w .shape .distance) ⌝ }
@@ -53,7 +55,7 @@ pub fn raw(w: Window, bytes: &[u8], edges: &mut [u8], escapes: &mut [u8]) -> Win
     let sheet = sheet_of(bytes);
     let mut defects = [0; MAX_DETECTORS];
     differences(&last, bytes, &mut defects[..n]);
-    let mut v = round::round(w, &defects[..n], edges, escapes);
+    let mut v = machine::round(w, &defects[..n], edges, escapes);
     v.measured = sheet;
     v
 }

@@ -28,17 +28,18 @@ fn scan_result(src: &[u8], at: usize, edges: usize, detectors: usize) -> ResultR
     }
 }
 
-// Stores the lists of a round of the result that can be read.
+// Stores the lists of a round of the result that can be read, as a scan before has shown: with it two passes over their numbers, since the
+// buffers must stay as they were where a round is refused.
 fn store_result(src: &[u8], at: usize, edges: &mut [u8], escapes: &mut [u8])
     requires { ⌜ isDone (resultFrom (now src) (length (now edges)) (length (now escapes)) at) ≡ true ⌝ }
     ensures { λ _. ⌜ now (edges .exit) ≡ valueOr (resultFrom (now (src .entry)) (length (now (edges .entry))) (length (now (escapes .entry))) at) resultEdges (now (edges .entry)) ⌝ }
     ensures { λ _. ⌜ now (escapes .exit) ≡ valueOr (resultFrom (now (src .entry)) (length (now (edges .entry))) (length (now (escapes .entry))) at) resultEscapes (now (escapes .entry)) ⌝ }
 {
-    let first = list::read_list(src, at, edges);
+    let first = list::store_list(src, at, edges);
     let Listed::To(next) = first else {
         return;
     };
-    list::read_list(src, next, escapes);
+    list::store_list(src, next, escapes);
 }
 
 // Reads the round of the result at an offset into buffers of one byte an edge and one byte a detector.

@@ -1,3 +1,1 @@
-pub mod Laid
-pub mod Passing
 pub mod Whole

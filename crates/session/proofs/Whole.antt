@@ -8,7 +8,7 @@ use mathlib.Core.List.{List, _++_}
 use borrow.Author.Tests.{le-leb, leb-true}
 use lib.Dec.{leb}
 use lib.ListN.{length, drop, length-append}
-use Rattle.refusal.specs.Answer.{Answer, done, codeOf, andThen, itself}
+use Rattle.refusal.specs.Answer.{done, codeOf}
 use Rattle.refusal.specs.Bytes.{Bytes}
 use Rattle.refusal.specs.Tests.{Passes}
 use Rattle.refusal.specs.Writing.{laid}
@@ -17,7 +17,7 @@ use Rattle.number.specs.Number.{writtenBuffered}
 use Rattle.number.specs.declared.Wrote.{Wrote}
 use Rattle.number.specs.declared.Wrote.the-variants as wroteTo
 use Rattle.shape.specs.Ranges.{halves}
-use Rattle.shape.specs.Sizes.{heightOk, distanceOk, shapeTests, shapeOf}
+use Rattle.shape.specs.Sizes.{heightOk, distanceOk}
 use Rattle.steps.specs.Steps.{base}
 use Rattle.shape.specs.declared.Shape.{Shape}
 use Rattle.record.specs.Calls.{headerAnswer, placeTests, writeHeader}
@@ -26,23 +26,14 @@ use Rattle.trip.specs.Header.{header-writes}
 use Rattle.record.specs.Records.{header, headerAt}
 use Rattle.record.specs.declared.HeaderRead.{HeaderRead}
 use Rattle.record.specs.declared.HeaderRead.the-variants as headerRead
-use Rattle.window.specs.Fresh.{freshWindow, noWindow}
-use Rattle.window.specs.Calls.{Answered, given, leaves, freshCall}
-use Rattle.window.specs.declared.Window.{Window}
+use Rattle.window.specs.Fresh.{freshWindow}
 use Rattle.decoding.specs.Decoding.{Line, turnedBack, Rounds, rounds, Decoded, behind, decoded}
 use Rattle.decoding.specs.Answers.{RoundsReturned, roundsReturned, roundsLeave, decodeReturned, outputLeaves, decodeLeaves}
 use Rattle.decoding.specs.LawsTests.{hold-pass}
 use Rattle.decoding.specs.LawsDecoding.{decoded-turned, decoded-full, decoded-on}
-use Rattle.session.proofs.Laid.{laid-long, laid-more}
-use Rattle.turn.proofs.Writers.{writer-full, writer-wrote}
-
--- a shape in range has a fresh window
-fresh-is : (sh : Shape) → InRange sh → (a : Answer (Unit {0})) (v : Window) → given a v ≡ leaves (freshCall (sh .height) (sh .distance)) itself noWindow → v ≡ freshWindow sh
-unfolding freshCall
-fresh-is sh range a v e =
-    let h = halves (heightOk (sh .height)) (distanceOk (sh .distance)) range in
-    let f : shapeOf (sh .height) (sh .distance) ≡ done sh 0 = hold-pass (shapeTests (sh .height) (sh .distance)) (h .0, (h .1, tt)) Shape (done sh 0) in
-    ap (λ (x : Answered (Unit {0})). x .window) (e ∙ ap (λ (x : Answer Shape). leaves (andThen x (λ o n. done (freshWindow o) n)) itself noWindow) f)
+use Rattle.one_record.proofs.Writers.{writer-full, writer-wrote}
+use Rattle.rounds_on.specs.Laid.{laid-long, laid-more}
+use Rattle.session.specs.Ends.{Ends}
 
 -- a header that was read, and the writing of it
 pub record Put (s old : List ℕ) (sh : Shape) (next : ℕ) (q : Wrote) (new : List ℕ) : Type 0 where
@@ -58,7 +49,7 @@ module _ (s old : List ℕ) where
   header-refused r read f z = as-decoded _ (decoded-turned base s (length old) f (sym read ∙ ap headerAnswer z))
 
   module _ (sh : Shape) (next : ℕ) (q : Wrote) (new : List ℕ) (p : Put s old sh next q new) where
-    range : InRange sh
+    pub range : InRange sh
     range = header-writes s 0 sh next (p .stream) (p .read) .range
 
     abbrev tests : List (Bool × ℕ)
@@ -78,18 +69,17 @@ module _ (s old : List ℕ) where
         rw (x .code, x .buffer) (as-decoded _ (decoded-full base s (length old) sh next (p .read) (room _ (x .room))))
 
     -- the rounds behind the header
-    pub rounds-behind : (to : ℕ) → q ≡ wroteTo.To to → (a : Answer (Unit {0})) (v : Window) → given a v ≡ leaves (freshCall (sh .height) (sh .distance)) itself noWindow
-        → (l : Line) (u : Window) (i count : ℕ) (last : List ℕ) → roundsReturned l u i count last ≡ roundsLeave base s v next new to → decodeReturned l count last ≡ decodeLeaves base s old
-    rounds-behind to y a v fresh l u i count last made =
+    pub rounds-behind : (to : ℕ) → q ≡ wroteTo.To to → (l : Line) (i count : ℕ) (last : List ℕ) → Ends (freshWindow base sh) s next new to l i count last → decodeReturned l count last ≡ decodeLeaves base s old
+    rounds-behind to y l i count last made =
         let x = writer-wrote tests pass old 0 (header sh) new to (ap (λ (x : Wrote). writtenBuffered x new) (sym y) ∙ p .put) in
         let fits = leb-true (length (header sh)) (length old) (room _ (x .room)) in
         let inside : 0 + length (header sh) ≤ length old = omega arith in
         let long : length (laid old 0 (header sh)) ≡ length old = laid-long old 0 (header sh) inside in
         let start : to ≡ length (header sh) = x .next ∙ zero-add (length (header sh)) in
-        let r : Rounds = rounds base s (length old) (freshWindow sh) next (length (header sh)) in
+        let r : Rounds = rounds base s (length old) (freshWindow base sh) next (length (header sh)) in
         let all : List ℕ = header sh ++ r .output in
-        let on : roundsReturned l u i count last ≡ roundsReturned (r .line) (r .window) (r .next) (length (header sh) + length (r .output)) (laid (laid old 0 (header sh)) (length (header sh)) (r .output)) =
-        made ∙ rw (fresh-is sh range a v fresh, x .buffer, start, long) refl in
+        let on : roundsReturned l (made .0) i count last ≡ roundsReturned (r .line) (r .window) (r .next) (length (header sh) + length (r .output)) (laid (laid old 0 (header sh)) (length (header sh)) (r .output)) =
+        made .1 ∙ rw (x .buffer, start, long) refl in
         let line : l ≡ r .line = ap (λ (p : RoundsReturned). p .line) on in
         let size : count ≡ length all = ap (λ (p : RoundsReturned). p .behind) on ∙ sym (length-append (header sh) (r .output)) in
         let joined : laid (laid old 0 (header sh)) (length (header sh)) (r .output) ≡ laid old 0 all =

@@ -1,44 +1,145 @@
-// Decoding an input stream into a result stream, on slices: round after round, and the whole stream.
+// Decoding an input stream into a result stream, on slices: round after round, and the whole stream. The machine's arrays are held here and lent.
 use decoding::DecodeGiven;
 use decoding::Ending;
-use decoding::Record;
 use decoding::RoundsGiven;
+use flat::LISTS;
+use flat::NO_EDGE;
+use flat::PLANE;
+use flat::PLANES;
+use flat::TABLE;
 use number::Wrote;
+use one_record::Held;
 use record::HeaderRead;
 use refusal::Refusal;
+use rounds_on::Rounds;
+use shape::Shape;
+use window::Stage;
 use window::Window;
 ghost use mathlib.Core.Path.{_≡_};
 ghost use mathlib.Core.Bool.{true};
+ghost use Rattle.shape.specs.Sizes.{inRange};
 ghost use Rattle.steps.specs.Steps.{base};
 ghost use Rattle.window.specs.Formed.{wellFormed};
+ghost use Rattle.window.specs.Fresh.{freshWindow};
+ghost use Rattle.window.specs.Window.{isRest};
 ghost use Rattle.decoding.specs.Answers.{lineOf, roundsReturned, roundsLeave, decodeReturned, decodeLeaves};
+ghost use Rattle.session.specs.Ends.{Ends};
 
-// Decodes round after round of a well-formed window, which each record leaves well-formed.
-fn rounds_formed(w: Window, src: &[u8], at: usize, out: &mut [u8], to: usize) -> RoundsGiven
+// Decodes round after round of a shape's fresh window.
+fn decode_fresh(shape: Shape, src: &[u8], at: usize, out: &mut [u8], to: usize) -> Rounds
+    requires { ⌜ inRange (shape .height) (shape .distance) ≡ true ⌝ }
+    ensures { λ r. ⌜ Ends (freshWindow base shape) (now (src .entry)) at (now (out .entry)) to (lineOf (r .ending)) (r .at) (r .to) (now (out .exit)) ⌝ }
+{
+    let z = plan::sizes(shape);
+    let mut table = [0; TABLE];
+    plan::fill(shape, &mut table);
+    let mut nodes = [0; PLANE];
+    let mut marks = [0; PLANE];
+    starting::own_marks(&mut marks, &table);
+    let mut edges = [NO_EDGE; PLANES];
+    let mut other_nodes = [0; PLANE];
+    let mut other_marks = [0; PLANE];
+    let mut other_edges = [NO_EDGE; PLANES];
+    let mut lists = [0; LISTS];
+    let mut queued = [false; PLANE];
+    let mut words = [0; PLANE];
+    let held = Held {
+        next: shape::sheets(shape) as u32,
+        rides: true,
+        live: 0,
+    };
+    rounds_on::rounds_on(
+        shape,
+        z,
+        held,
+        src,
+        at,
+        out,
+        to,
+        &mut nodes,
+        &mut marks,
+        &mut edges,
+        &mut other_nodes,
+        &mut other_marks,
+        &mut other_edges,
+        &table,
+        &mut lists,
+        &mut queued,
+        &mut words,
+    )
+}
+
+// Decodes round after round of a well-formed window at rest. All its nodes are live.
+fn decode_resting(w: Window, src: &[u8], at: usize, out: &mut [u8], to: usize) -> RoundsGiven
     requires { ⌜ wellFormed base w ≡ true ⌝ }
+    requires { ⌜ isRest (w .stage) ≡ true ⌝ }
     ensures { λ r. ⌜ roundsReturned (lineOf (r .ending)) (r .window) (r .at) (r .to) (now (out .exit)) ≡ roundsLeave base (now (src .entry)) w at (now (out .entry)) to ⌝ }
 {
-    let mut window = w;
-    let mut i = at;
-    let mut j = to;
-    loop {
-        let r = one_record::decode_formed(window, src, i, out, j);
-        let answer = r.answer;
-        match answer {
-            Record::Stopped(ending) => {
-                return RoundsGiven {
-                    ending,
-                    window,
-                    at: i,
-                    to: j,
-                };
-            }
-            Record::Written(next, behind) => {
-                window = r.window;
-                i = next;
-                j = behind;
-            }
-        }
+    let shape = w.shape;
+    let z = plan::sizes(shape);
+    let mut table = [0; TABLE];
+    plan::fill(shape, &mut table);
+    let mut nodes = [0; PLANE];
+    let mut marks = [0; PLANE];
+    let mut edges = [NO_EDGE; PLANES];
+    unpack::unpack(w, &mut nodes, &mut marks, &mut edges, &table);
+    let rides = unpack::rides(z, false, &nodes, &edges, &table);
+    let mut lists = [0; LISTS];
+    starting::all_live(z, &mut lists);
+    let mut other_nodes = [0; PLANE];
+    let mut other_marks = [0; PLANE];
+    let mut other_edges = [NO_EDGE; PLANES];
+    let mut queued = [false; PLANE];
+    let mut words = [0; PLANE];
+    let held = Held {
+        next: w.next,
+        rides,
+        live: z.nodes,
+    };
+    let r = rounds_on::rounds_on(
+        shape,
+        z,
+        held,
+        src,
+        at,
+        out,
+        to,
+        &mut nodes,
+        &mut marks,
+        &mut edges,
+        &mut other_nodes,
+        &mut other_marks,
+        &mut other_edges,
+        &table,
+        &mut lists,
+        &mut queued,
+        &mut words,
+    );
+    let ending = r.ending;
+    let measured = w.measured;
+    if r.second {
+        let window = pack::pack(
+            shape,
+            Stage::Rest,
+            r.next,
+            measured,
+            &other_nodes,
+            &other_marks,
+            &other_edges,
+        );
+        return RoundsGiven {
+            ending,
+            window,
+            at: r.at,
+            to: r.to,
+        };
+    }
+    let window = pack::pack(shape, Stage::Rest, r.next, measured, &nodes, &marks, &edges);
+    RoundsGiven {
+        ending,
+        window,
+        at: r.at,
+        to: r.to,
     }
 }
 
@@ -54,7 +155,16 @@ pub fn decode_rounds(w: Window, src: &[u8], at: usize, out: &mut [u8], to: usize
             to,
         };
     }
-    rounds_formed(w, src, at, out, to)
+    let stage = w.stage;
+    if !window::is_rest(stage) {
+        return RoundsGiven {
+            ending: Ending::Refused(Refusal::WrongStage),
+            window: w,
+            at,
+            to,
+        };
+    }
+    decode_resting(w, src, at, out, to)
 }
 
 // Decodes a whole stream: the header and the rounds, written from the buffer's front on.
@@ -72,9 +182,7 @@ pub fn decode(src: &[u8], out: &mut [u8]) -> DecodeGiven
                 count: 0,
             },
             Wrote::To(to) => {
-                let fresh = fresh::fresh(shape.height as u32, shape.distance as u32);
-                let window = fresh.window;
-                let r = decode_rounds(window, src, next, out, to);
+                let r = decode_fresh(shape, src, next, out, to);
                 let ending = r.ending;
                 DecodeGiven {
                     ending,

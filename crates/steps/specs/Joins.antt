@@ -5,9 +5,10 @@ use mathlib.Core.Bool.{Bool, true, false, _||_, not}
 use native.Mathlib.Omega.{arith}
 use borrow.Author.Tests.{ltb-true, leb-true, lt-ltb, le-leb, not-true}
 use Rattle.shape.specs.Choice.{if-true, if-false}
+use Rattle.shape.specs.Sizes.{boundary}
 use Rattle.shape.specs.Counting.{Inside}
 use Rattle.shape.specs.Ranges.{halves, both}
-use Rattle.steps.specs.Steps.{Table, step, goes, fits, stays, alongRow, across, insideOf, bothDetectors, joined, near}
+use Rattle.steps.specs.Steps.{Table, stay, step, goes, fits, stays, beside, across, insideOf, bothDetectors, joined, near}
 use Rattle.shape.specs.declared.Place.{Place}
 use Rattle.steps.specs.declared.Shift.{Shift}
 use Rattle.steps.specs.declared.Step.{Step}
@@ -24,7 +25,7 @@ pub record Joins (h d k : ℕ) (st : Step) (q : Place) : Type 0 where
   pub column : Clear (st .column) (q .column)
   pub sheet : Clear (st .sheet) (q .depth)
   pub moves : stays st ≡ false
-  pub kind : (alongRow st || bothDetectors d st q) ≡ true
+  pub kind : (beside st || bothDetectors d st q) ≡ true
 
 pub inside : (h d k : ℕ) (q : Place) → insideOf h d k q ≡ true → Inside h d k q
 inside h d k q e =
@@ -74,6 +75,25 @@ joined-by h d k st q j =
     (clear-fits (st .sheet) (q .depth) k (j .sheet) (j .to .depth)))
     (ap not (j .moves)))
     (j .kind)
+
+-- A boundary node has no other edge than the one to its row neighbour
+pub boundary-edge : (h d k : ℕ) (st : Step) (q : Place) → Joins h d k st q → boundary d (q .column) ≡ true → beside st ≡ true
+boundary-edge h d k st q j b = go (beside st) (j .kind)
+  where
+    go : (x : Bool) → (x || bothDetectors d st q) ≡ true → x ≡ true
+    go true e = refl
+    go false e = rw b at e
+
+-- by value, in a row of columns 0 to 5: a step of two columns joins detectors, and neither boundary node
+abbrev twoEast : Step
+twoEast = record { row = stay; column = record { less = 0; more = 2 }; sheet = stay; back = 0; kind = 0; own = true }
+
+abbrev column : ℕ → Place
+column c = record { depth = 0; row = 0; column = c }
+
+pub two-columns : (joined 1 5 1 twoEast (column 0) ≡ false) × (joined 1 5 1 twoEast (column 1) ≡ true) × (joined 1 5 1 twoEast (column 3) ≡ false)
+unfolding joined
+two-columns = (refl, refl, refl)
 
 -- what a neighbour says of the test
 module _ (T : Table) (h d k p : ℕ) (q : Place) where

@@ -1,21 +1,23 @@
 -- Neighbours and slots, for every proper table and any number of sheets: there and back along an edge, one slot from both ends, another for each edge.
 -- Assumes nothing.
-use Prim.Native.Nat.{ℕ, _+_, _*_, _/_, _%_, _≤_, _<_}
-use native.Mathlib.Nat.{mul-comm, mul-le-mul-left}
+use Prim.Native.Nat.{ℕ, _+_, _*_, _≤_, _<_}
+use native.Mathlib.Nat.{mul-le-mul-left}
 use native.Mathlib.Omega.{arith}
-use mathlib.Core.Path.{_≡_, refl, sym, _∙_, ap, subst}
+use mathlib.Core.Path.{_≡_, refl, sym, _∙_, ap, ap₂, subst}
 use mathlib.Core.Bool.{Bool, true, false, _&&_, _||_, not}
 use mathlib.Core.Logic.{_⊎_, inl, inr, ⊎-elim}
-use borrow.Author.Tests.{eq-eqb, eqb-true, eqb-false, ne-eqb}
+use lib.Dec.{eqb}
+use borrow.Author.Tests.{eq-eqb}
 use Rattle.shape.specs.Choice.{if, if-true, if-false, tell}
-use Rattle.shape.specs.Sizes.{nodesIn, sheetsOf, boundary, maxNodes}
-use Rattle.shape.specs.Ranges.{Ranged}
+use Rattle.shape.specs.Sizes.{nodesOf, sheetsOf, boundary, maxNodes}
+use Rattle.shape.specs.Ranges.{Ranged, nodes-of}
 use Rattle.shape.specs.Nodes.{indexOf}
-use Rattle.shape.specs.Counting.{Inside, quotient, rest, before}
+use Rattle.shape.specs.Counting.{Inside}
 use Rattle.shape.specs.LawsIndex.{index-lt, index-injective, window-le}
-use Rattle.steps.specs.Steps.{Table, step, goes, still, stays, alongRow, across, bothDetectors, joined, near, slot}
+use Rattle.steps.specs.Steps.{Table, step, goes, still, stays, alongRow, oneApart, beside, across, bothDetectors, joined, near, namingEnd, slotKind, slotNode, slot}
 use Rattle.steps.specs.Joins.{Clear, Joins, joined-by, near-at, near-to}
-use Rattle.steps.specs.Proper.{swap, Reversed, Points, Opposed, Proper, points}
+use Rattle.steps.specs.Proper.{swap, still-swap, Reversed, Points, Opposed, Proper, points}
+use Rattle.steps.specs.Slots.{slot-kind, slot-node, slot-within}
 use Rattle.shape.specs.declared.Place.{Place}
 use Rattle.steps.specs.declared.Shift.{Shift}
 use Rattle.steps.specs.declared.Step.{Step}
@@ -30,12 +32,6 @@ goes-back s a l = omega arith
 clear-back : (s : Shift) (a : ℕ) → Clear s a → Clear (swap s) (goes s a)
 clear-back s a l = omega arith
 
-still-back : (s : Shift) → still (swap s) ≡ still s
-still-back s =
-    ⊎-elim (λ e. eq-eqb _ _ (sym (eqb-true (s .less) (s .more) e)) ∙ sym e)
-    (λ e. ne-eqb _ _ (λ z. eqb-false (s .less) (s .more) e (sym z)) ∙ sym e)
-    (tell (still s))
-
 -- a shift that leads nowhere is still
 still-at : (s : Shift) (a : ℕ) → Clear s a → goes s a ≡ a → still s ≡ true
 still-at s a l e = eq-eqb (s .less) (s .more) (omega arith)
@@ -45,6 +41,12 @@ and-comm true true = refl
 and-comm true false = refl
 and-comm false true = refl
 and-comm false false = refl
+
+or-comm : (a b : Bool) → a || b ≡ b || a
+or-comm true true = refl
+or-comm true false = refl
+or-comm false true = refl
+or-comm false false = refl
 
 -- AN EDGE AND BACK
 
@@ -62,10 +64,16 @@ module _ (h d k : ℕ) (s t : Step) (r : Reversed s t) (q : Place) (j : Joins h 
       )
 
   along-back : alongRow t ≡ alongRow s
-  along-back = rw (r .row, r .sheet, still-back (s .row), still-back (s .sheet))
+  along-back = rw (r .row, r .sheet, still-swap (s .row), still-swap (s .sheet))
+
+  apart-back : oneApart (t .column) ≡ oneApart (s .column)
+  apart-back = rw (r .column) (or-comm (eqb (s .column .more + 1) (s .column .less)) (eqb (s .column .less + 1) (s .column .more)))
+
+  beside-back : beside t ≡ beside s
+  beside-back = ap₂ (λ (a b : Bool). a && b) along-back apart-back
 
   stays-back : stays t ≡ stays s
-  stays-back = rw (r .row, r .sheet, r .column, still-back (s .row), still-back (s .sheet), still-back (s .column))
+  stays-back = rw (r .row, r .sheet, r .column, still-swap (s .row), still-swap (s .sheet), still-swap (s .column))
 
   detectors-back : bothDetectors d t (across s q) ≡ bothDetectors d s q
   unfolding across
@@ -83,7 +91,7 @@ module _ (h d k : ℕ) (s t : Step) (r : Reversed s t) (q : Place) (j : Joins h 
         column = rw (r .column) (clear-back (s .column) (q .column) (j .column));
         sheet = rw (r .sheet) (clear-back (s .sheet) (q .depth) (j .sheet));
         moves = stays-back ∙ j .moves;
-        kind = ap (λ (b : Bool). b || bothDetectors d t (across s q)) along-back ∙ ap (λ (b : Bool). alongRow s || b) detectors-back ∙ j .kind;
+        kind = ap (λ (b : Bool). b || bothDetectors d t (across s q)) beside-back ∙ ap (λ (b : Bool). beside s || b) detectors-back ∙ j .kind;
       }
 
 -- a step along an edge leads to another place
@@ -98,16 +106,6 @@ across-moves h d k s q j e =
     let z : _≡_ {A = ℕ} 0 1 = cc in omega arith
 
 -- NEIGHBOURS AND SLOTS
-
--- the end that names the edge of pointer p at q
-abbrev pub namer : Table → ℕ → Place → Place
-namer T p q = if (step T p .own) q (across (step T p) q)
-
--- a sum's two parts, from the sum
-parts : (w a b a' b' : ℕ) → b < w → b' < w → w * a + b ≡ w * a' + b' → (a ≡ a') × (b ≡ b')
-parts w a b a' b' l l' e =
-    let f : a * w + b ≡ a' * w + b' = rw (mul-comm a w, mul-comm a' w) e in
-    (sym (quotient w a b l) ∙ ap (λ (n : ℕ). n / w) f ∙ quotient w a' b' l', sym (rest w a b l) ∙ ap (λ (n : ℕ). n % w) f ∙ rest w a' b' l')
 
 same-found : (r : Found) (a b : Place) → r ≡ At a → r ≡ At b → a ≡ b
 same-found r a b u v = cc
@@ -147,8 +145,8 @@ module _ (T : Table) (P : Proper T) (h d k : ℕ) where
         ∙ ap At returns
 
     -- both ends have the same name for the edge
-    namer-back : namer T (step T p .back) q' ≡ namer T p q
-    namer-back =
+    end-back : namingEnd T (step T p .back) q' ≡ namingEnd T p q
+    end-back =
         rw (opposite .reversed .own, returns, leads) (either (step T p .own))
       where
         either : (b : Bool) → if (not b) q' q ≡ if b q q'
@@ -158,40 +156,42 @@ module _ (T : Table) (P : Proper T) (h d k : ℕ) where
     -- the slot is the same from both ends
     pub slot-back : slot T h d (step T p .back) q' ≡ slot T h d p q
     unfolding slot
-    slot-back = rw (namer-back, opposite .reversed .kind)
+    slot-back = rw (end-back, opposite .reversed .kind)
 
-    pub namer-inside : Inside h d k (namer T p q)
-    namer-inside =
+    pub end-inside : Inside h d k (namingEnd T p q)
+    end-inside =
         ⊎-elim (λ o. rw (if-true (step T p .own) q (across (step T p) q) o) (joint .from))
         (λ o. rw (if-false (step T p .own) q (across (step T p) q) o) (joint .to))
         (tell (step T p .own))
 
-    pub slot-lt : slot T h d p q < T .kinds * nodesIn h d k
-    unfolding slot
-    slot-lt =
-        let g = indexOf h d (namer T p q) in
-        let a = before (T .kinds) g (step T p .kind) (opposite .kind) (nodesIn h d k) (index-lt h d k (namer T p q) namer-inside) in
-        rw (mul-comm (T .kinds) g, mul-comm (T .kinds) (nodesIn h d k)) a
+    module _ (r : Ranged h d) (l : k ≤ sheetsOf d) where
+      index-low : indexOf h d (namingEnd T p q) < nodesOf h d
+      index-low = rw (nodes-of h d r) (omega (arith, index-lt h d k (namingEnd T p q) end-inside, mul-le-mul-left (h * (d + 1)) l))
 
-    -- all sheets of the window may be there, or only some
-    pub slot-window : k ≤ sheetsOf d → slot T h d p q < T .kinds * nodesIn h d (sheetsOf d)
-    slot-window l =
-        omega (arith, slot-lt, mul-le-mul-left (T .kinds) (mul-le-mul-left (h * (d + 1)) l))
+      -- all sheets of the window may be there, or only some
+      pub slot-window : slot T h d p q < T .kinds * nodesOf h d
+      unfolding slot
+      slot-window =
+          slot-within (nodesOf h d) (step T p .kind) (indexOf h d (namingEnd T p q)) index-low (T .kinds) (opposite .kind)
 
-    pub slot-max : Ranged h d → k ≤ sheetsOf d → slot T h d p q < T .kinds * maxNodes
-    slot-max r l = omega (arith, slot-window l, mul-le-mul-left (T .kinds) (window-le h d r))
+      pub slot-max : slot T h d p q < T .kinds * maxNodes
+      slot-max = let a : nodesOf h d ≤ maxNodes = rw (nodes-of h d r) (window-le h d r) in omega (arith, slot-window, mul-le-mul-left (T .kinds) a)
 
   -- two directions along edges, and the same slot: the kind is the same, and the end that names the edge
-  module _ (p p' : ℕ) (q q' t t' : Place) (e : near T h d k p q ≡ At t) (f : near T h d k p' q' ≡ At t') (s : slot T h d p q ≡ slot T h d p' q') where
-    split : (indexOf h d (namer T p q) ≡ indexOf h d (namer T p' q')) × (step T p .kind ≡ step T p' .kind)
+  module _ (r : Ranged h d) (l : k ≤ sheetsOf d) (p p' : ℕ) (q q' t t' : Place) (e : near T h d k p q ≡ At t) (f : near T h d k p' q' ≡ At t') (s : slot T h d p q ≡ slot T h d p' q') where
+    split : (step T p .kind ≡ step T p' .kind) × (indexOf h d (namingEnd T p q) ≡ indexOf h d (namingEnd T p' q'))
     unfolding slot
-    split = parts (T .kinds) _ _ _ _ (opposite p q t e .kind) (opposite p' q' t' f .kind) s
+    split =
+        let n = nodesOf h d in
+        let a = index-low p q t e r l in
+        let b = index-low p' q' t' f r l in
+        (sym (slot-kind n _ _ a) ∙ ap (slotKind n) s ∙ slot-kind n _ _ b, sym (slot-node n _ _ a) ∙ ap (slotNode n) s ∙ slot-node n _ _ b)
 
-    same-namer : namer T p q ≡ namer T p' q'
-    same-namer = index-injective h d k _ _ (namer-inside p q t e) (namer-inside p' q' t' f) (split .0)
+    same-end : namingEnd T p q ≡ namingEnd T p' q'
+    same-end = index-injective h d k _ _ (end-inside p q t e) (end-inside p' q' t' f) (split .1)
 
     same-pointer : step T p .own ≡ step T p' .own → p ≡ p'
-    same-pointer o = P .named p p' (near-points p q t e) (near-points p' q' t' f) (split .1) o
+    same-pointer o = P .named p p' (near-points p q t e) (near-points p' q' t' f) (split .0) o
 
     -- the same direction from the same node, or the opposite direction from the other end
     abbrev pub SameEdge : Type 0
@@ -201,14 +201,14 @@ module _ (T : Table) (P : Proper T) (h d k : ℕ) where
     both-own o o' =
         let a = if-true (step T p .own) q (across (step T p) q) o in
         let b = if-true (step T p' .own) q' (across (step T p') q') o' in
-        let n = same-namer in
+        let n = same-end in
         inl (same-pointer (o ∙ sym o'), sym a ∙ n ∙ b)
 
     neither-own : step T p .own ≡ false → step T p' .own ≡ false → SameEdge
     neither-own o o' =
         let a = if-false (step T p .own) q (across (step T p) q) o ∙ leads p q t e in
         let b = if-false (step T p' .own) q' (across (step T p') q') o' ∙ leads p' q' t' f in
-        let x : t ≡ t' = sym a ∙ same-namer ∙ b in
+        let x : t ≡ t' = sym a ∙ same-end ∙ b in
         let y : p ≡ p' = same-pointer (o ∙ sym o') in
         let u = near-back p q t e in
         let v = near-back p' q' t' f in
@@ -218,10 +218,10 @@ module _ (T : Table) (P : Proper T) (h d k : ℕ) where
     first-own o o' =
         let a = if-true (step T p .own) q (across (step T p) q) o in
         let b = if-false (step T p' .own) q' (across (step T p') q') o' ∙ leads p' q' t' f in
-        let x : q ≡ t' = sym a ∙ same-namer ∙ b in
+        let x : q ≡ t' = sym a ∙ same-end ∙ b in
         let w = opposite p' q' t' f in
         let y : p ≡ step T p' .back
-        = P .named p (step T p' .back) (near-points p q t e) (w .back) (split .1 ∙ sym (w .reversed .kind)) (o ∙ sym (w .reversed .own ∙ ap not o')) in
+        = P .named p (step T p' .back) (near-points p q t e) (w .back) (split .0 ∙ sym (w .reversed .kind)) (o ∙ sym (w .reversed .own ∙ ap not o')) in
         let v = near-back p' q' t' f in
         inr (ap (λ (m : ℕ). step T m .back) y ∙ w .again, same-found _ t q' e (ap (λ (m : ℕ). near T h d k m q) y ∙ ap (λ (m : Place). near T h d k (step T p' .back) m) x ∙ v))
 
@@ -231,8 +231,8 @@ module _ (T : Table) (P : Proper T) (h d k : ℕ) where
         let b = if-true (step T p' .own) q' (across (step T p') q') o' in
         let w = opposite p q t e in
         inr (
-          P .named (step T p .back) p' (w .back) (near-points p' q' t' f) (w .reversed .kind ∙ split .1) (w .reversed .own ∙ ap not o ∙ sym o'),
-          sym a ∙ same-namer ∙ b,
+          P .named (step T p .back) p' (w .back) (near-points p' q' t' f) (w .reversed .kind ∙ split .0) (w .reversed .own ∙ ap not o ∙ sym o'),
+          sym a ∙ same-end ∙ b,
         )
 
     -- a slot belongs to one edge
@@ -243,8 +243,8 @@ module _ (T : Table) (P : Proper T) (h d k : ℕ) where
         (tell (step T p .own))
 
   -- edges in distinct directions from one node have distinct slots
-  pub slots-apart : (p p' : ℕ) (q t t' : Place) → near T h d k p q ≡ At t → near T h d k p' q ≡ At t' → slot T h d p q ≡ slot T h d p' q → p ≡ p'
-  slots-apart p p' q t t' e f s =
+  pub slots-apart : Ranged h d → k ≤ sheetsOf d → (p p' : ℕ) (q t t' : Place) → near T h d k p q ≡ At t → near T h d k p' q ≡ At t' → slot T h d p q ≡ slot T h d p' q → p ≡ p'
+  slots-apart r l p p' q t t' e f s =
       ⊎-elim (λ (a : (p ≡ p') × (q ≡ q)). a .0)
       (λ (a : (step T p .back ≡ p') × (t ≡ q)). absurd (across-moves h d k (step T p) q (joint p q t e) (leads p q t e ∙ a .1)))
-      (slot-edge p p' q q t t' e f s)
+      (slot-edge r l p p' q q t t' e f s)

@@ -1,11 +1,11 @@
 -- Steps between nodes, over any table of steps: where they lead, which are along an edge, and the edge's slot. Assumes nothing.
-use Prim.Native.Nat.{ℕ, _+_, _-_, _*_}
+use Prim.Native.Nat.{ℕ, suc, _+_, _-_, _*_, _/_, _%_}
 use mathlib.Core.Bool.{Bool, true, false, _&&_, _||_, not}
 use mathlib.Core.List.{List, [], _∷_}
 use lib.Dec.{ltb, leb, eqb}
 use lib.ListN.{getD}
 use Rattle.shape.specs.Choice.{if}
-use Rattle.shape.specs.Sizes.{boundary}
+use Rattle.shape.specs.Sizes.{boundary, nodesOf}
 use Rattle.shape.specs.Nodes.{indexOf}
 use Rattle.shape.specs.declared.Place.{Place}
 use Rattle.steps.specs.declared.Shift.{Shift}
@@ -77,6 +77,13 @@ alongRow st = still (st .row) && still (st .sheet)
 abbrev pub stays : Step → Bool
 stays st = alongRow st && still (st .column)
 
+abbrev pub oneApart : Shift → Bool
+oneApart s = eqb (s .less + 1) (s .more) || eqb (s .more + 1) (s .less)
+
+-- the step leads to the row neighbour, the only one that a boundary node has
+abbrev pub beside : Step → Bool
+beside st = alongRow st && oneApart (st .column)
+
 -- the place across
 unfoldable pub across : Step → Place → Place
 across st q = record { depth = goes (st .sheet) (q .depth); row = goes (st .row) (q .row); column = goes (st .column) (q .column) }
@@ -88,7 +95,7 @@ insideOf h d k q = ltb (q .depth) k && ltb (q .row) h && leb (q .column) d
 abbrev pub bothDetectors : ℕ → Step → Place → Bool
 bothDetectors d st q = not (boundary d (q .column)) && not (boundary d (goes (st .column) (q .column)))
 
--- There is an edge from q along the step, of the first k sheets: both ends are inside, and it is along a row or between two detectors
+-- There is an edge from q along the step, of the first k sheets: both ends are inside, and it leads to the row neighbour or is between two detectors
 unfoldable pub joined : ℕ → ℕ → ℕ → Step → Place → Bool
 joined h d k st q =
     insideOf h d k q
@@ -96,12 +103,37 @@ joined h d k st q =
     && fits (st .column) (q .column) (d + 1)
     && fits (st .sheet) (q .depth) k
     && not (stays st)
-    && (alongRow st || bothDetectors d st q)
+    && (beside st || bothDetectors d st q)
 
 -- the place at the other end of the edge of pointer p
 unfoldable pub near : Table → ℕ → ℕ → ℕ → ℕ → Place → Found
 near T h d k p q = if (joined h d k (step T p) q) (At (across (step T p) q)) Nowhere
 
--- the slot of the edge of pointer p: by the index of the end that names the edge, and its kind
+-- NAMES OF EDGES
+
+-- the direction in which a node names its edge of a kind
+unfoldable pub naming : List Step → ℕ → ℕ → ℕ
+naming [] kind p = 0
+naming (st ∷ sts) kind p = elim (st .own && eqb (st .kind) kind) [ true ↦ p | false ↦ naming sts kind (suc p) ]
+
+abbrev pub namer : Table → ℕ → ℕ
+namer T kind = naming (T .steps) kind 1
+
+-- the end that names the edge of pointer p at q
+abbrev pub namingEnd : Table → ℕ → Place → Place
+namingEnd T p q = if (step T p .own) q (across (step T p) q)
+
+-- SLOTS: kind by kind, and of a kind by the index of the node that names the edge, one of n nodes; and back
+
+abbrev pub slotIn : ℕ → ℕ → ℕ → ℕ
+slotIn n kind g = n * kind + g
+
+abbrev pub slotKind : ℕ → ℕ → ℕ
+slotKind n e = e / n
+
+abbrev pub slotNode : ℕ → ℕ → ℕ
+slotNode n e = e % n
+
+-- the slot of the edge of pointer p
 unfoldable pub slot : Table → ℕ → ℕ → ℕ → Place → ℕ
-slot T h d p q = T .kinds * indexOf h d (if (step T p .own) q (across (step T p) q)) + step T p .kind
+slot T h d p q = slotIn (nodesOf h d) (step T p .kind) (indexOf h d (namingEnd T p q))

@@ -1,9 +1,9 @@
 -- The tests of a round, one after another. Assumes nothing.
 use Prim.Native.Nat.{ℕ, _<_, _≤_}
-use Rattle.walk.specs.Ways.{less}
 use mathlib.Core.Path.{_≡_, refl, sym, _∙_, ap}
 use mathlib.Core.Bool.{Bool, true, false}
 use mathlib.Core.List.{List, [], _∷_}
+use mathlib.Core.Logic.{⊎-elim}
 use borrow.Author.Tests.{ltb-true, eqb-true, lt-ltb, le-ltb, eq-eqb, ne-eqb}
 use native.Mathlib.Omega.{arith}
 use lib.Dec.{ltb, eqb}
@@ -12,8 +12,11 @@ use Rattle.refusal.specs.Answer.{Answer, refused, turned, unless}
 use Rattle.refusal.specs.Tests.{turned-first}
 use Rattle.refusal.specs.Done.{took}
 use Rattle.refusal.specs.declared.Refusal.{Refusal}
+use Rattle.shape.specs.Choice.{order}
 use Rattle.shape.specs.Sizes.{detectorsOf, layerEdgesOf}
 use Rattle.steps.specs.Steps.{base}
+use Rattle.layers.specs.Layers.{layerEdges}
+use Rattle.layers.specs.Document.{count-0}
 use Rattle.list.specs.Sheet.{areBits}
 use Rattle.window.specs.Window.{isRest, maxNext}
 use Rattle.window.specs.Formed.{wellFormed}
@@ -25,7 +28,7 @@ use Rattle.tested.proofs.State.{fine, state-turned}
 
 -- tests by numbers that a part gave
 pub early-by : (n : ℕ) → n ≤ maxNext → (n ≡ maxNext → ⊥) → n < maxNext
-early-by n l f = less n maxNext l f
+early-by n l f = ⊎-elim (λ k. k) (λ k. absurd (f (omega arith))) (order n maxNext)
 
 pub same-by : (n k m : ℕ) → k ≡ m → n ≡ k → eqb n m ≡ true
 same-by n k m e f = eq-eqb n m (f ∙ e)
@@ -52,7 +55,7 @@ module _ (w : Window) (bytes : List ℕ) (edges escapes : ℕ) where
 
   by-seven : seven (wellFormed base w) (isRest (w .stage)) (ltb (w .next) maxNext) sheetTest layerTest bottomTest (areBits bytes) ≡ tested
   unfolding seven
-  by-seven = refl
+  by-seven = rw (count-0 (w .shape .height) (w .shape .distance))
 
   -- a test of the state, told already
   pub turned-state : (b : Bool) → b ≡ isRest (w .stage) → (r : Called) → callAnswer r ≡ unless (stateTests base w b) fine → (f : Refusal) → r ≡ called.Refused f → turned f ≡ tested
@@ -113,9 +116,9 @@ module _ (w : Window) (bytes : List ℕ) (edges escapes : ℕ) where
       let b = took (isRest (w .stage)) _ (refused 22) tt 0 refl (a .1) in
       let c = took (ltb (w .next) maxNext) _ (refused 23) tt 0 refl (b .1) in
       let d = took (eqb (length bytes) (detectorsOf (w .shape .height) (w .shape .distance))) _ (refused 3) tt 0 refl (c .1) in
-      let f = took (eqb edges (layerEdgesOf (w .shape .height) (w .shape .distance))) _ (refused 5) tt 0 refl (d .1) in
+      let f = took (eqb edges (layerEdges base (w .shape .height) (w .shape .distance))) _ (refused 5) tt 0 refl (d .1) in
       let g = took (eqb escapes (detectorsOf (w .shape .height) (w .shape .distance))) _ (refused 6) tt 0 refl (f .1) in
-      record { formed = a .0; next = ltb-true _ _ (c .0); sheet = eqb-true _ _ (d .0); layer = eqb-true _ _ (f .0); bottom = eqb-true _ _ (g .0) }
+      record { formed = a .0; next = ltb-true _ _ (c .0); sheet = eqb-true _ _ (d .0); layer = eqb-true _ _ (f .0) ∙ count-0 (w .shape .height) (w .shape .distance); bottom = eqb-true _ _ (g .0) }
 
   pub round-fine : (r : Called) → callAnswer r ≡ unless (roundTests base w bytes edges escapes) fine → r ≡ called.Done → Fine
   round-fine r t z = told-fine (ap callAnswer (sym z) ∙ t)

@@ -1,70 +1,97 @@
-// One round of the stream: received, run, and its record written.
-use decoding::Ending;
-use decoding::Record;
-use decoding::RecordGiven;
-use number::Wrote;
-use shape::MAX_DETECTORS;
-use shape::MAX_LAYER_EDGES;
-use window::Ran;
-use window::Window;
+// A round of the stream on the machine's arrays: received from one set into the other, and run.
+use flat::LISTS;
+use flat::PLANE;
+use flat::PLANES;
+use flat::Sizes;
+use flat::TABLE;
+use shape::Shape;
 ghost use mathlib.Core.Path.{_≡_};
 ghost use mathlib.Core.Bool.{true};
-ghost use Prim.Native.Nat.{_-_, _<_, _≤_};
+ghost use Prim.Native.Nat.{_≤_};
 ghost use lib.ListN.{length};
-ghost use Rattle.refusal.specs.Answer.{done};
-ghost use Rattle.shape.specs.Sizes.{inRange, detectorsOf, layerEdgesOf};
+ghost use Rattle.shape.specs.Sizes.{inRange, detectorsOf};
 ghost use Rattle.steps.specs.Steps.{base};
-ghost use Rattle.window.specs.Window.{maxNext};
-ghost use Rattle.window.specs.Round.{rounded, committedEdges, escapedDefects};
-ghost use Rattle.window.specs.Run.{ran};
-ghost use Rattle.decoding.specs.Decoding.{budget, turnOf, recorded};
-ghost use Rattle.decoding.specs.Answers.{recordAnswer, recordReturned, recordedLeaves};
+ghost use Rattle.flat.specs.Entries.{stateOf, Long};
+ghost use Rattle.flat.specs.Plan.{planOf};
+ghost use Rattle.flat.specs.Step.{listAt};
+ghost use Rattle.queue.specs.Queue.{Empty};
+ghost use Rattle.plan.specs.Table.{sizesOf};
+ghost use Rattle.plan.specs.Filled.{Filled};
+ghost use Rattle.round_step.specs.Falls.{NoneOutside};
+ghost use Rattle.turn.specs.Turned.{Holds, Scratch, Leaves};
 
-// Receives a round and runs the window.
-fn turn(w: Window, bytes: &[u8], edges: &mut [u8], escapes: &mut [u8]) -> Ran
-    requires { ⌜ inRange (w .shape .height) (w .shape .distance) ≡ true ⌝ }
-    requires { ⌜ w .next < maxNext ⌝ }
-    requires { ⌜ length (now bytes) ≡ detectorsOf (w .shape .height) (w .shape .distance) ⌝ }
-    requires { ⌜ length (now edges) ≡ layerEdgesOf (w .shape .height) (w .shape .distance) ⌝ }
-    requires { ⌜ length (now escapes) ≡ detectorsOf (w .shape .height) (w .shape .distance) ⌝ }
-    ensures { λ r. ⌜ r ≡ ran base budget (rounded base w (now (bytes .entry))) ⌝ }
-    ensures { λ _. ⌜ now (edges .exit) ≡ committedEdges base w ⌝ }
-    ensures { λ _. ⌜ now (escapes .exit) ≡ escapedDefects w ⌝ }
-{
-    run::run(round::round(w, bytes, edges, escapes), 65536)
+// Merging steps a round.
+pub const BUDGET: u32 = 65536;
+
+// Whether the window came to rest, the steps made, and how many nodes are live.
+pub struct Ended {
+    pub rest: bool,
+    pub count: u32,
+    pub live: usize,
 }
 
-// Receives a round that was read, up to an offset, and writes its record from an offset on.
-pub fn decode_round(w: Window, bytes: &[u8], next: usize, out: &mut [u8], to: usize) -> RecordGiven
-    requires { ⌜ inRange (w .shape .height) (w .shape .distance) ≡ true ⌝ }
-    requires { ⌜ w .next < maxNext ⌝ }
-    requires { ⌜ length (now bytes) ≡ detectorsOf (w .shape .height) (w .shape .distance) ⌝ }
-    requires { ⌜ to ≤ length (now out) ⌝ }
-    ensures { λ r. ⌜ recordReturned (recordAnswer (r .answer)) (r .window) (now (out .exit)) ≡ recordedLeaves (recorded (length (now (out .entry)) - to) (done (turnOf base w (now (bytes .entry))) next)) w (now (out .entry)) to ⌝ }
+// Receives a round and runs the window.
+pub fn turn(
+    shape: Shape,
+    z: Sizes,
+    second: bool,
+    rides: bool,
+    live: usize,
+    bytes: &[u8],
+    old_nodes: &[u8; PLANE],
+    old_marks: &[u16; PLANE],
+    old_edges: &[u8; PLANES],
+    nodes: &mut [u8; PLANE],
+    marks: &mut [u16; PLANE],
+    edges: &mut [u8; PLANES],
+    table: &[u16; TABLE],
+    lists: &mut [u16; LISTS],
+    queued: &mut [bool; PLANE],
+    words: &mut [u32; PLANE],
+) -> Ended
+    requires { ⌜ inRange (shape .height) (shape .distance) ≡ true ⌝ }
+    requires { ⌜ z ≡ sizesOf base (shape .height) (shape .distance) ⌝ }
+    requires { ⌜ Filled base (shape .height) (shape .distance) (now table) ⌝ }
+    requires { ⌜ length (now bytes) ≡ detectorsOf (shape .height) (shape .distance) ⌝ }
+    requires { ⌜ Long (now nodes) (now marks) (now edges) ⌝ }
+    requires { ⌜ NoneOutside base (shape .height) (shape .distance) (now edges) ⌝ }
+    requires { ⌜ Scratch (now lists) (now queued) (now words) ⌝ }
+    requires { ⌜ live ≤ 4608 ⌝ }
+    requires { ⌜ Holds (planOf z (now table)) shape second (stateOf (now «old_nodes») (now «old_marks») (now «old_edges»)) rides live (listAt (now lists) 9216) ⌝ }
+    ensures { λ r. ⌜ Scratch (now (lists .exit)) (now (queued .exit)) (now (words .exit)) ⌝ }
+    ensures { λ r. ⌜ Leaves (planOf z (now (table .entry))) shape second (now (bytes .entry)) (stateOf (now («old_nodes» .entry)) (now («old_marks» .entry)) (now («old_edges» .entry))) rides live (listAt (now (lists .entry)) 9216) (r .rest) (r .count) (r .live) (now (nodes .exit)) (now (marks .exit)) (now (edges .exit)) (listAt (now (lists .exit)) 9216) ⌝ }
 {
-    let shape = w.shape;
-    let n = shape::detectors(shape);
-    let m = shape::layer_edges(shape);
-    let mut edges = [0; MAX_LAYER_EDGES];
-    let mut escapes = [0; MAX_DETECTORS];
-    let ran = turn(w, bytes, &mut edges[..m], &mut escapes[..n]);
-    if !ran.rest {
-        return RecordGiven {
-            answer: Record::Stopped(Ending::Spent),
-            window: w,
-        };
-    }
-    match result_writer::write_result(shape, &edges[..m], &escapes[..n], ran.count, out, to) {
-        Wrote::Not(f) => RecordGiven {
-            answer: Record::Stopped(Ending::Refused(f)),
-            window: w,
-        },
-        Wrote::To(behind) => {
-            let window = ran.window;
-            RecordGiven {
-                answer: Record::Written(next, behind),
-                window,
-            }
-        }
+    round_step::fall(
+        shape,
+        z,
+        second,
+        bytes,
+        old_nodes,
+        old_marks,
+        old_edges,
+        nodes,
+        marks,
+        edges,
+        table,
+    );
+    grow_step::grow(z, nodes, marks, edges, table);
+    let listed = work_list::work_list(z, rides, live, nodes, edges, table, lists, queued);
+    let run = run_steps::run(
+        z,
+        rides,
+        BUDGET,
+        listed,
+        nodes,
+        marks,
+        edges,
+        table,
+        lists,
+        queued,
+        words,
+    );
+    Ended {
+        rest: run.rest,
+        count: run.count,
+        live: listed,
     }
 }

@@ -1,24 +1,17 @@
 -- Laws of the walk through a window. Assumes nothing.
-use Prim.Native.Nat.{ℕ, _+_, _*_, _/_, _%_, _≤_, _<_}
+use Prim.Native.Nat.{ℕ, _+_, _*_, _/_, _≤_, _<_}
 use native.Mathlib.Nat.{add-mul, one-mul, mod-lt, div-eq-of-lt, mod-eq-of-lt, not-suc-le-zero}
 use native.Mathlib.Omega.{arith}
 use mathlib.Core.Path.{_≡_, refl, sym, _∙_, ap, subst}
-use mathlib.Core.Bool.{Bool, true, false, not}
+use mathlib.Core.Bool.{Bool, true, false}
 use mathlib.Core.Logic.{⊎-elim}
 use borrow.Author.Tests.{lt-ltb, le-ltb}
 use Rattle.shape.specs.Choice.{order, if-false}
-use Rattle.shape.specs.Sizes.{sheetsOf, boundary, inRange, nodesIn, nodesOf, maxSheets, maxNodes, maxNumbers}
+use Rattle.shape.specs.Sizes.{sheetsOf, inRange, nodesIn, nodesOf, maxSheets, maxNodes, maxNumbers}
 use Rattle.shape.specs.Ranges.{Ranged, ranged, nodes-of, sheets-le}
 use Rattle.shape.specs.Counting.{Inside}
 use Rattle.shape.specs.Nodes.{indexOf, placeAt, numberOf}
-use Rattle.steps.specs.Steps.{Table, base, near, slot}
-use Rattle.steps.specs.Proper.{proper-base}
-use Rattle.steps.specs.LawsStep.{near-inside, slot-max}
-use Rattle.shape.specs.declared.Found.{Found}
-use Rattle.shape.specs.declared.Found.the-variants.{At, Nowhere}
-use Rattle.window.specs.Window.{naming, namer, nowhere, reach, maxSlots}
-use Rattle.window.specs.declared.Way.{Way}
-use Rattle.shape.specs.LawsIndex.{index-place, place-index, index-inside, index-lt, nodes-le, window-le, numbers-le}
+use Rattle.shape.specs.LawsIndex.{index-place, place-index, index-inside, index-lt, window-le, numbers-le}
 use Rattle.shape.specs.LawsNumber.{number-lt}
 use Rattle.shape.specs.declared.Place.{Place}
 use Rattle.walk.specs.Walk.{placeAfter, Stands}
@@ -141,29 +134,6 @@ module _ (h d : ℕ) (q : Place) (g : ℕ) (s : Stands h d q g) where
       let i : Inside h d (sheetsOf d + 1) q = record { depth = omega (arith, s .inside .depth); row = s .inside .row; column = s .inside .column } in
       omega (arith, number-lt h d (s .ranged .d2) q i, numbers-le h d (s .ranged))
 
--- A WAY, by what is found in its direction
-
-module _ (T : Table) (h d k p : ℕ) (q : Place) where
-  pub none-there : near T h d k p q ≡ Nowhere → nowhere ≡ reach T h d k p q
-  unfolding reach
-  none-there e = rw (e, reach)
-
-  pub way-there : (q' : Place) → near T h d k p q ≡ At q'
-      → _≡_ {A = Way} (record { there = true; node = indexOf h d q'; slot = slot T h d p q; detector = not (boundary d (q' .column)) }) (reach T h d k p q)
-  unfolding reach
-  way-there q' e = rw (e, reach)
-
--- THE SLOTS of a node, three of them
-
-pub three-kinds : base .kinds ≡ 3
-unfolding base
-three-kinds = refl
-
--- the node and the kind of a slot
-pub slot-at : (g kind e : ℕ) → e ≡ 3 * g + kind → kind < 3 → (e / base .kinds ≡ g) × (e % base .kinds ≡ kind)
-unfolding base
-slot-at g kind e f l = (omega arith, omega arith)
-
 -- IN A LOOP over the nodes, whose place is known where there are rows
 
 pub stands-at : (h d : ℕ) (q : Place) (n g : ℕ) → n ≡ nodesOf h d → g < n → (1 ≤ h → q ≡ placeAt h d g) → Stands h d q g
@@ -174,32 +144,3 @@ stands-at h d q n g e l f =
 
 pub walks-on : (h d : ℕ) (q t : Place) (g : ℕ) → (1 ≤ h → q ≡ placeAt h d g) → t ≡ placeAfter h d q → 1 ≤ h → t ≡ placeAt h d (g + 1)
 walks-on h d q t g f e h1 = walks h d q t g h1 (f h1) e
-
--- a way leads to a node and over a slot of the window, whose sheets need not all be there
-module _ (h d k p : ℕ) (q : Place) (r : Ranged h d) (l : k ≤ sheetsOf d) where
-  leads : (f : Found) → near base h d k p q ≡ f → (reach base h d k p q .node < maxNodes) × (reach base h d k p q .slot < maxSlots)
-  unfolding base
-  leads (At q') e =
-      let i = near-inside base proper-base h d k p q q' e in
-      let n = nodes-le h d k maxSheets r (omega (arith, sheets-le d (r .d-max))) in
-      rw (← way-there base h d k p q q' e) (omega (arith, index-lt h d k q' i), omega (arith, slot-max base proper-base h d k p q q' e r l))
-  leads Nowhere e = rw (← none-there base h d k p q e) (omega arith, omega arith)
-
-  pub way-low : (reach base h d k p q .node < maxNodes) × (reach base h d k p q .slot < maxSlots)
-  way-low = leads (near base h d k p q) refl
-
-pub ends-low : (h d k p : ℕ) (q : Place) (way : Way) → Ranged h d → k ≤ sheetsOf d → way ≡ reach base h d k p q → (way .node < maxNodes) × (way .slot < maxSlots)
-ends-low h d k p q way r l e = rw e (way-low h d k p q r l)
-
--- the directions in which a node names its edges: E, S, U
-pub named-east : namer base 0 ≡ 3
-unfolding base naming
-named-east = refl
-
-pub named-south : namer base 1 ≡ 4
-unfolding base naming
-named-south = refl
-
-pub named-up : namer base 2 ≡ 6
-unfolding base naming
-named-up = refl

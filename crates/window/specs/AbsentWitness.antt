@@ -25,7 +25,7 @@ use Rattle.window.specs.declared.Window.{Window}
 
 -- after so many rounds, the first with a defect, and nothing grown
 unfoldable pub after : ℕ → Window
-after zero = fresh.freshWindow (record { height = 1; distance = 2 })
+after zero = fresh.freshWindow base (record { height = 1; distance = 2 })
 after (suc zero) = round.rounded base (after zero) (1 ∷ [])
 after (suc (suc n)) = round.rounded base (after (suc n)) (0 ∷ [])
 
@@ -55,7 +55,7 @@ Refused w = wellFormed base w ≡ false
 
 -- the halves of three edges after growing: node 1's east, the time edge from node 4 to node 1, and that from node 7 to node 4
 abbrev grows : Window → List ℕ
-grows w = let g = grow.grown base w .growth in getD g 3 0 ∷ getD g 14 0 ∷ getD g 23 0 ∷ []
+grows w = let g = grow.grown base w .growth in getD g 1 0 ∷ getD g 22 0 ∷ getD g 25 0 ∷ []
 
 pub record AbsentMet : Type 0 where
   -- no sheet of a fresh window is there, then one more with each round
@@ -74,13 +74,13 @@ pub record AbsentMet : Type 0 where
   pub marked : Refused (node 4 (with false false false 0 (Root 8)) (after 1))
   pub reset : Refused (stage Merging (node 4 (with false false false 0 Reset) (after 1)))
   -- its edges, and the one to node 1 above, their zeros
-  pub grown : Refused (halves 12 1 (after 1))
-  pub corrected : Refused (flips 12 (after 1))
-  pub grown-up : Refused (halves 14 1 (after 1))
-  pub corrected-up : Refused (flips 14 (after 1))
+  pub grown : Refused (halves 4 1 (after 1))
+  pub corrected : Refused (flips 4 (after 1))
+  pub grown-up : Refused (halves 22 1 (after 1))
+  pub corrected-up : Refused (flips 22 (after 1))
   -- in a sheet that is there all this may stand
   pub present-active : Formed (node 4 (with true false false 0 (Root 8)) (after 2))
-  pub present-edge : Formed (flips 14 (halves 14 1 (after 2)))
+  pub present-edge : Formed (flips 22 (halves 22 1 (after 2)))
   -- no pointer leads down to an absent sheet, from node 1, nor to an absent round that has left, from node 7; to a supplied one that has left it may
   pub down : Refused (node 1 (with false true false 5 (Root 8)) (after 1))
   pub out : Refused (node 7 (with false true false 5 (Root 10)) (after 3))
@@ -90,7 +90,7 @@ pub record AbsentMet : Type 0 where
   pub grows-up : grows (node 4 (with true true false 0 (Root 9)) (after 2)) ≡ (0 ∷ 1 ∷ 0 ∷ [])
 
 pub absent-met : AbsentMet
-unfolding after nodes.indexOf nodes.placeAt nodes.numberOf steps.base steps.across steps.joined steps.near steps.slot lists.from lists.byPlace lists.every lists.all window.reach window.naming fresh.freshWindow formed.pointerFits formed.nodeFits formed.slotFitsAt formed.wellFormed round.loweredNumber round.topNode round.fallenNode round.fallenSlot round.rounded grow.grownSlot grow.grownNode grow.grown
+unfolding after nodes.indexOf nodes.placeAt nodes.numberOf steps.base steps.across steps.joined steps.near steps.slot lists.from lists.byPlace lists.every lists.all window.reach steps.naming fresh.freshWindow formed.pointerFits formed.nodeFits formed.slotFitsAt formed.wellFormed round.loweredNumber round.topNode round.fallenNode round.fallenSlot round.rounded grow.grownSlot grow.grownNode grow.grown
 absent-met =
     record {
       fresh = refl;

@@ -6,8 +6,9 @@ use lib.Dec.{ltb, eqb}
 use lib.ListN.{length}
 use Rattle.refusal.specs.Answer.{Answer, done, turned, unless, andThen, withoutValue, valueOr}
 use Rattle.list.specs.Sheet.{areBits}
-use Rattle.shape.specs.Sizes.{shapeOf, detectorsOf, layerEdgesOf}
+use Rattle.shape.specs.Sizes.{shapeOf, detectorsOf}
 use Rattle.steps.specs.Steps.{Table}
+use Rattle.layers.specs.Layers.{layerEdges}
 use Rattle.window.specs.Window.{isRest, isToGrow, isMerging, maxNext}
 use Rattle.window.specs.Fresh.{freshWindow}
 use Rattle.window.specs.Formed.{wellFormed}
@@ -40,8 +41,8 @@ abbrev pub leaves : {A : Type 0} → Answer A → (A → Window) → Window → 
 leaves a of w = given (withoutValue a) (valueOr a of w)
 
 -- 1, 2
-unfoldable pub freshCall : ℕ → ℕ → Answer Window
-freshCall h d = andThen (shapeOf h d) (λ sh n. done (freshWindow sh) n)
+unfoldable pub freshCall : Table → ℕ → ℕ → Answer Window
+freshCall T h d = andThen (shapeOf h d) (λ sh n. done (freshWindow T sh) n)
 
 -- what a round call leaves, plain or raw
 pub record Round : Type 0 where
@@ -73,7 +74,7 @@ module _ (T : Table) (w : Window) where
       ∷ (isRest (w .stage), 22)
       ∷ (ltb (w .next) maxNext, 23)
       ∷ (eqb (length bytes) (detectorsOf (w .shape .height) (w .shape .distance)), 3)
-      ∷ (eqb edges (layerEdgesOf (w .shape .height) (w .shape .distance)), 5)
+      ∷ (eqb edges (layerEdges T (w .shape .height) (w .shape .distance)), 5)
       ∷ (eqb escapes (detectorsOf (w .shape .height) (w .shape .distance)), 6)
       ∷ (areBits bytes, 4)
       ∷ []

@@ -1,15 +1,16 @@
 -- WELL-FORMED WINDOWS, as a test. Assumes nothing.
 use Prim.Native.Nat.{ℕ, _+_, _*_}
 use mathlib.Core.Bool.{Bool, _&&_, _||_, not, false}
+use mathlib.Core.List.{List}
 use lib.Dec.{ltb, leb, eqb}
 use lib.ListN.{getD, drop}
 use Rattle.shape.specs.Choice.{if}
 use Rattle.shape.specs.Nodes.{numberOf}
 use Rattle.shape.specs.Sizes.{sheetsOf, boundary, inRange, nodesIn, detectorsOf}
-use Rattle.steps.specs.Steps.{Table}
+use Rattle.steps.specs.Steps.{Table, namer, slotIn}
 use Rattle.shape.specs.declared.Place.{Place}
 use Rattle.window.specs.Lists.{every, all}
-use Rattle.window.specs.Window.{isMerging, namer, reach, size, present, pointed, at, place, to}
+use Rattle.window.specs.Window.{isMerging, reach, size, present, pointed, at, place}
 use Rattle.window.specs.declared.Mark.{Mark}
 use Rattle.window.specs.declared.Mark.the-variants.{Reset, Root}
 use Rattle.window.specs.declared.Stage.{Stage}
@@ -55,14 +56,19 @@ isEmpty halves = eqb halves 0
 abbrev pub slotFits : Bool → ℕ → Bool → Bool
 slotFits there halves correction = leb halves 2 && (there || isEmpty halves && not correction)
 
+-- the slot of the edge of a kind that node g, one of n, names at a place
+abbrev pub slotBy : Table → ℕ → ℕ → ℕ → ℕ → Place → ℕ → List ℕ → List Bool → ℕ → Bool
+slotBy T h d k n q g growth correction kind =
+    let e = slotIn n kind g in
+    slotFits (reach T h d k (namer T kind) q .there) (getD growth e 0) (getD correction e false)
+
 module _ (T : Table) (w : Window) where
   abbrev pub nodeFitsAt : ℕ → Bool
   nodeFitsAt g = nodeFits T (w .stage) (w .shape .height) (w .shape .distance) (present w) (pointed w) (place w g) (at w g)
 
   -- node g's own edge of a kind
   unfoldable pub slotFitsAt : ℕ → ℕ → Bool
-  slotFitsAt g kind =
-      slotFits (to w T (namer T kind) g .there) (getD (w .growth) (T .kinds * g + kind) 0) (getD (w .correction) (T .kinds * g + kind) false)
+  slotFitsAt g kind = slotBy T (w .shape .height) (w .shape .distance) (present w) (size w) (place w g) g (w .growth) (w .correction) kind
 
   unfoldable pub wellFormed : Bool
   wellFormed =

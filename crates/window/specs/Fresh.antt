@@ -1,25 +1,35 @@
 -- THE FRESH WINDOW. Assumes nothing.
-use Prim.Native.Nat.{ℕ}
+use Prim.Native.Nat.{ℕ, _*_, max}
+use mathlib.Core.Path.{_≡_, refl}
 use mathlib.Core.Bool.{false}
 use lib.ListN.{replicate}
 use Rattle.shape.specs.Sizes.{sheetsOf, nodesOf, maxNodes, maxDetectors}
 use Rattle.shape.specs.Nodes.{numberOf, placeAt}
 use Rattle.shape.specs.declared.Shape.{Shape}
+use Rattle.steps.specs.Steps.{Table, base}
 use Rattle.window.specs.Lists.{over}
 use Rattle.window.specs.Window.{alone, unused, maxSlots}
 use Rattle.window.specs.declared.Stage.the-variants.{Rest}
 use Rattle.window.specs.declared.Window.{Window}
 
+-- the slots of a window: those of the largest shape, and for a table of more kinds so many more
+abbrev pub slotsOf : Table → ℕ
+slotsOf T = max maxSlots (T .kinds * maxNodes)
+
+pub slots-base : slotsOf base ≡ maxSlots
+unfolding base
+slots-base = refl
+
 -- stage rest; each node its own cluster with mark its number and pointer C; everything else 0 or false, the measured sheet too; next round s
-unfoldable pub freshWindow : Shape → Window
-freshWindow sh =
+unfoldable pub freshWindow : Table → Shape → Window
+freshWindow T sh =
     record {
       shape = sh;
       stage = Rest;
       next = sheetsOf (sh .distance);
       nodes = over (nodesOf (sh .height) (sh .distance)) (λ g. alone (numberOf (sh .height) (sh .distance) (placeAt (sh .height) (sh .distance) g)) false) (replicate maxNodes unused);
-      growth = replicate {A = ℕ} maxSlots 0;
-      correction = replicate maxSlots false;
+      growth = replicate {A = ℕ} (slotsOf T) 0;
+      correction = replicate (slotsOf T) false;
       measured = replicate maxDetectors false;
     }
 

@@ -1,11 +1,11 @@
 -- GROW. Assumes nothing.
-use Prim.Native.Nat.{ℕ, _+_, _*_, _/_, _%_, min}
+use Prim.Native.Nat.{ℕ, _+_, _*_, min}
 use mathlib.Core.Bool.{_&&_}
 use lib.ListN.{getD}
 use Rattle.shape.specs.Choice.{if}
-use Rattle.steps.specs.Steps.{Table, falls}
+use Rattle.steps.specs.Steps.{Table, falls, namer, slotKind, slotNode}
 use Rattle.window.specs.Lists.{over, bit}
-use Rattle.window.specs.Window.{namer, size, at, bottom, to}
+use Rattle.window.specs.Window.{size, at, bottom, to}
 use Rattle.window.specs.declared.Mark.the-variants.{Reset}
 use Rattle.window.specs.declared.Stage.the-variants.{Merging}
 use Rattle.window.specs.declared.Node.{Node}
@@ -23,8 +23,8 @@ cut n = record { active = n .active; defect = n .defect; unrooted = n .unrooted;
 module _ (T : Table) (w : Window) where
   unfoldable pub grownSlot : ℕ → ℕ
   grownSlot e =
-      let g = e / T .kinds in
-      let r = to w T (namer T (e % T .kinds)) g in
+      let g = slotNode (size w) e in
+      let r = to w T (namer T (slotKind (size w) e)) g in
       gains r (getD (w .growth) e 0) (at w g) (at w (r .node))
 
   -- a bottom node whose pointer is D gets mark reset and pointer C

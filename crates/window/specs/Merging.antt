@@ -1,14 +1,14 @@
 -- MERGING, one step: what a node sees, what becomes of it, and the window after the step. Assumes nothing.
-use Prim.Native.Nat.{ℕ, _+_, _-_, _*_, _/_, _%_}
+use Prim.Native.Nat.{ℕ, _+_, _-_, _*_}
 use mathlib.Core.Bool.{Bool, true, false, _&&_, _||_, not}
 use mathlib.Core.List.{List, [], _∷_}
 use lib.Dec.{ltb, eqb}
 use lib.ListN.{length, getD}
 use Rattle.shape.specs.Choice.{if}
 use Rattle.shape.specs.Nodes.{numberOf}
-use Rattle.steps.specs.Steps.{Table, step}
+use Rattle.steps.specs.Steps.{Table, step, namer, slotKind, slotNode}
 use Rattle.window.specs.Lists.{byPlace, over, any, xor}
-use Rattle.window.specs.Window.{namer, size, at, place, detector, to}
+use Rattle.window.specs.Window.{size, at, place, detector, to}
 use Rattle.window.specs.declared.Mark.{Mark}
 use Rattle.window.specs.declared.Mark.the-variants.{Reset, Root}
 use Rattle.window.specs.declared.Stage.the-variants.{Rest, Merging}
@@ -112,8 +112,8 @@ module _ (T : Table) (w : Window) where
   -- the slot of node g's own edge of a kind
   unfoldable pub flippedSlot : ℕ → Bool
   flippedSlot e =
-      let g = e / T .kinds in
-      let p = namer T (e % T .kinds) in
+      let g = slotNode (size w) e in
+      let p = namer T (slotKind (size w) e) in
       flipped (getD (w .correction) e false) (detector w g) (at w g) p (seen g (p - 1))
 
   -- if no node was busy, the stage is rest

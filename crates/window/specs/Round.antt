@@ -5,14 +5,14 @@ use mathlib.Core.List.{List}
 use lib.Dec.{ltb, eqb}
 use lib.ListN.{getD}
 use Rattle.shape.specs.Choice.{if}
-use Rattle.shape.specs.Sizes.{sheetsOf, boundary, detectorsOf, layerEdgesOf}
+use Rattle.shape.specs.Sizes.{sheetsOf, boundary, detectorsOf, nodesOf}
 use Rattle.shape.specs.Nodes.{indexOf, numberOf, boundaryNodes}
-use Rattle.steps.specs.Steps.{Table, step, across}
-use Rattle.layers.specs.Layer.{edgeOf}
+use Rattle.steps.specs.Steps.{Table, step, across, namer, slotIn, slotKind, slotNode}
+use Rattle.layers.specs.Layers.{nodeOf, edgeOf, layerEdges}
 use Rattle.layers.specs.declared.Edge.{Edge}
 use Rattle.shape.specs.declared.Place.{Place}
 use Rattle.window.specs.Lists.{byPlace, over, bit}
-use Rattle.window.specs.Window.{alone, namer, size, sheet, at, place}
+use Rattle.window.specs.Window.{alone, size, sheet, at, place}
 use Rattle.window.specs.declared.Mark.{Mark}
 use Rattle.window.specs.declared.Mark.the-variants.{Reset, Root}
 use Rattle.window.specs.declared.Stage.the-variants.{ToGrow}
@@ -22,8 +22,8 @@ use Rattle.window.specs.declared.Window.{Window}
 -- WHAT LEAVES
 
 -- the slot of a layer's edge, in the sheet at a depth
-abbrev pub edgeSlot : Table → ℕ → ℕ → ℕ → Edge → ℕ
-edgeSlot T h d depth e = T .kinds * indexOf h d (record { depth = depth; row = e .row; column = e .column }) + e .kind
+abbrev pub edgeSlot : ℕ → ℕ → ℕ → Edge → ℕ
+edgeSlot h d depth e = slotIn (nodesOf h d) (e .kind) (indexOf h d (nodeOf depth e))
 
 -- the ith detector of the sheet at a depth, row by row
 abbrev pub detectorAt : ℕ → ℕ → ℕ → Place
@@ -34,7 +34,7 @@ unfoldable pub committedEdges : Table → Window → List ℕ
 committedEdges T w =
     let h = w .shape .height in
     let d = w .shape .distance in
-    byPlace (layerEdgesOf h d) (λ i. bit (getD (w .correction) (edgeSlot T h d (sheetsOf d - 1) (edgeOf h d i)) false))
+    byPlace (layerEdges T h d) (λ i. bit (getD (w .correction) (edgeSlot h d (sheetsOf d - 1) (edgeOf T h d i)) false))
 
 -- the bottom sheet's defects go to the escape buffer, one byte a detector
 unfoldable pub escapedDefects : Window → List ℕ
@@ -78,7 +78,7 @@ atTop T w g p = eqb (place w g .depth) 0 || eqb (across (step T p) (place w g) .
 -- what stands in a slot: nothing where the edge is new, else what stood one sheet above
 unfoldable pub fallenSlot {ℓ} : {A : Type ℓ} → Table → Window → A → List A → ℕ → A
 fallenSlot T w zero old e =
-    if (atTop T w (e / T .kinds) (namer T (e % T .kinds))) zero (getD old (e - T .kinds * sheet w) zero)
+    if (atTop T w (slotNode (size w) e) (namer T (slotKind (size w) e))) zero (getD old (e - sheet w) zero)
 
 -- the last measured sheet stays
 unfoldable pub rounded : Table → Window → List ℕ → Window

@@ -1,7 +1,6 @@
 -- What stands in a window: by node, and over a step. Everything is over a table of steps T. Assumes nothing.
-use Prim.Native.Nat.{ℕ, suc, _+_, _-_, _*_, min}
-use mathlib.Core.Bool.{Bool, true, false, _&&_, not}
-use mathlib.Core.List.{List, [], _∷_}
+use Prim.Native.Nat.{ℕ, _+_, _-_, _*_, min}
+use mathlib.Core.Bool.{Bool, true, false, not}
 use lib.Dec.{eqb}
 use lib.ListN.{getD}
 use Rattle.shape.specs.Choice.{if}
@@ -9,7 +8,6 @@ use Rattle.shape.specs.Sizes.{sheetsOf, boundary, nodesOf, maxNodes}
 use Rattle.shape.specs.Nodes.{indexOf, placeAt}
 use Rattle.steps.specs.Steps.{Table, near, slot}
 use Rattle.shape.specs.declared.Place.{Place}
-use Rattle.steps.specs.declared.Step.{Step}
 use Rattle.shape.specs.declared.Found.the-variants.{At, Nowhere}
 use Rattle.window.specs.declared.Mark.the-variants.{Reset, Root}
 use Rattle.window.specs.declared.Stage.{Stage}
@@ -64,14 +62,6 @@ reach T h d k p q =
       | At q' ↦ record { there = true; node = indexOf h d q'; slot = slot T h d p q; detector = not (boundary d (q' .column)) }
       | Nowhere ↦ nowhere
     ]
-
--- the direction in which a node names its edge of a kind
-unfoldable pub naming : List Step → ℕ → ℕ → ℕ
-naming [] kind p = 0
-naming (st ∷ sts) kind p = elim (st .own && eqb (st .kind) kind) [ true ↦ p | false ↦ naming sts kind (suc p) ]
-
-abbrev pub namer : Table → ℕ → ℕ
-namer T kind = naming (T .steps) kind 1
 
 -- Depth j holds round next - 1 - j, and rounds 0 to s - 1 are absent: of the first k sheets, those of supplied rounds. Presence is asked here alone
 abbrev pub supplied : ℕ → ℕ → ℕ → ℕ

@@ -35,7 +35,7 @@ pub enum Stage {
     Merging,
 }
 
-// Nodes in the internal order; an edge's growth and correction at three times the index of the end that names it, plus its kind;
+// Nodes in the internal order; growth and correction of the edges kind by kind, each at the index of the end that names it;
 // the last measured sheet, a bit a detector, row by row.
 pub struct Window {
     pub shape: Shape,

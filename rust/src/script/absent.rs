@@ -61,7 +61,9 @@ impl Script {
         self.absent_nodes();
         self.try_node(first + 1, |node| node.pointer = UP);
         self.add("# absent edges: of the highest absent sheet, up to the lowest that is there, and above the bottom");
-        for slot in [3 * first, 3 * first + 4, 3 * first + 5, 3 * BOTTOM[1] + 2] {
+        // East, south and up, by kind.
+        let [south, up] = [LAST + 1, 2 * (LAST + 1)];
+        for slot in [first, south + first + 1, up + first + 1, up + BOTTOM[1]] {
             self.try_halves(slot, 1);
             self.try_flip(slot);
         }

@@ -1,10 +1,12 @@
 -- `calls::merging` meets its contract. Assumes nothing.
-use mathlib.Core.Path.{sym, _∙_}
+use mathlib.Core.Path.{sym}
 use mathlib.Core.Bool.{true, false}
 use borrow.Author.Needs.{needs}
+use Rattle.window.specs.Window.{isMerging}
+use Rattle.tested.proofs.State.{state-fine}
 use Rattle.calls.proofs.merging.Statement.{statement}
 use Rattle.calls.proofs.merging.Tie as tie
-use Rattle.calls.proofs.Leaves.{merging-refused, merging-done}
+use Rattle.calls.proofs.Leaves.{merging-on, merging-refused, merging-done}
 
 is-merging-requires : tie.Need-is-merging-requires
 is-merging-requires c κs = search needs
@@ -21,17 +23,21 @@ returns c = merging-refused (c .before .before .before .before .before .args .w)
 enum-told : tie.Need-enum-told
 enum-told c = search needs
 
-merge-requires : tie.Need-merge-requires
-merge-requires c κs = search needs
-
-is-rest-requires : tie.Need-is-rest-requires
-is-rest-requires c κs = search needs
+run-requires : tie.Need-run-requires
+run-requires c κs =
+    let w = c .before .before .before .before .args .w in
+    let f = state-fine w (c .before .before .before .is-merging .result) (isMerging (w .stage)) (c .before .before .before .is-merging .ensures) (c .before .before .test-state .result) (c .before .before .test-state .ensures) (c .enum-told .given .1) in
+    (f .0, merging-on (w .stage) (f .1) .0)
 
 returns-2 : tie.Need-returns-2
-returns-2 c = merging-done (c .before .before .before .before .before .before .before .args .w) (c .before .before .before .before .before .before .is-merging .result) (c .before .before .before .before .before .before .is-merging .ensures) (c .before .before .before .before .before .test-state .result) (c .before .before .before .before .before .test-state .ensures) (c .before .before .merge .result) true (c .before .before .before .enum-told .given .1) (c .before .before .merge .ensures) (sym (c .if1 .taken) ∙ c .before .is-rest .ensures)
+returns-2 c =
+    let t = c .before .before .before .before .before .test-state in
+    merging-done (c .before .before .before .before .before .before .before .args .w) (c .before .before .before .before .before .before .is-merging .result) (c .before .before .before .before .before .before .is-merging .ensures) (t .result) (t .ensures) (c .before .before .run .result) true (c .before .before .before .enum-told .given .1) (c .before .before .run .ensures) (sym (c .if1 .taken))
 
 returns-3 : tie.Need-returns-3
-returns-3 c = merging-done (c .before .before .before .before .before .before .before .args .w) (c .before .before .before .before .before .before .is-merging .result) (c .before .before .before .before .before .before .is-merging .ensures) (c .before .before .before .before .before .test-state .result) (c .before .before .before .before .before .test-state .ensures) (c .before .before .merge .result) false (c .before .before .before .enum-told .given .1) (c .before .before .merge .ensures) (sym (c .if1 .left) ∙ c .before .is-rest .ensures)
+returns-3 c =
+    let t = c .before .before .before .before .before .test-state in
+    merging-done (c .before .before .before .before .before .before .before .args .w) (c .before .before .before .before .before .before .is-merging .result) (c .before .before .before .before .before .before .is-merging .ensures) (t .result) (t .ensures) (c .before .before .run .result) false (c .before .before .before .enum-told .given .1) (c .before .before .run .ensures) (sym (c .if1 .left))
 
 pub merging-spec : {M : Type 1} → statement M
 merging-spec =
@@ -42,7 +48,6 @@ merging-spec =
     enum-known-tested
     returns
     enum-told
-    merge-requires
-    is-rest-requires
+    run-requires
     returns-2
     returns-3)

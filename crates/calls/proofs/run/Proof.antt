@@ -1,7 +1,9 @@
 -- `calls::run` meets its contract. Assumes nothing.
-use mathlib.Core.Path.{sym, ap}
+use mathlib.Core.Path.{refl, sym, _∙_, ap}
 use mathlib.Core.Bool.{Bool, not}
 use borrow.Author.Needs.{needs}
+use borrow.Author.Tests.{not-true}
+use Rattle.tested.proofs.State.{state-fine}
 use Rattle.calls.specs.Answers.{endedBy, rest, spent}
 use Rattle.calls.proofs.Leaves.{run-refused, run-done}
 use Rattle.calls.proofs.run.Statement.{statement}
@@ -23,7 +25,9 @@ enum-told : tie.Need-enum-told
 enum-told c = search needs
 
 run-requires : tie.Need-run-requires
-run-requires c κs = search needs
+run-requires c κs =
+    let f = state-fine (c .before .before .before .before .args .w) _ _ refl (c .before .before .test-state .result) (c .before .before .test-state .ensures) (c .enum-told .given .1) in
+    (f .0, sym (c .before .before .before .is-rest .ensures) ∙ not-true _ (f .1))
 
 returns-2 : tie.Need-returns-2
 returns-2 c = run-done (c .before .before .before .before .before .before .before .args .w) (c .before .before .before .before .before .before .before .args .budget) (not (c .before .before .before .before .before .before .is-rest .result)) (ap not (c .before .before .before .before .before .before .is-rest .ensures)) (c .before .before .before .before .before .test-state .result) (c .before .before .before .before .before .test-state .ensures) (c .before .before .run .result) (rest (c .before .before .run .result .count)) (c .before .before .before .enum-told .given .1) (c .before .before .run .ensures) (ap (λ (b : Bool). endedBy b (c .before .before .run .result .count)) (sym (c .if1 .taken)))

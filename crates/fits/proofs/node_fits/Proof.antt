@@ -86,16 +86,16 @@ returns : tie.Need-returns
 returns c = let a = c .before .before .before .before .args in absent (a .stage) (a .shape .height) (a .shape .distance) (a .there) (a .led) (a .place) (a .node) _ _ (c .before .before .if1 .taken) (c .before .number .ensures) (c .is-fresh .ensures)
 
 returns-2 : tie.Need-returns-2
-returns-2 c = let a = c .before .before .before .before .args in no-mark (a .stage) (a .shape .height) (a .shape .distance) (a .there) (a .led) (a .place) (a .node) (c .before .before .if1 .left) (a .marks) (c .before .mark-fits .result) (c .before .before .before .before .pre .1 .0) (c .before .mark-fits .ensures) (not-true _ (c .if2 .taken))
+returns-2 c = let a = c .before .before .before .before .args in no-mark (a .stage) (a .shape .height) (a .shape .distance) (a .there) (a .led) (a .place) (a .node) (c .before .before .if1 .left) (a .marks) (c .before .mark-fits .result) (c .before .before .before .before .pre .1) (c .before .mark-fits .ensures) (not-true _ (c .if2 .taken))
 
 returns-3 : tie.Need-returns-3
-returns-3 c = let a = c .before .before .before .before .before .before .before .args in plain-fits (a .stage) (a .shape .height) (a .shape .distance) (a .there) (a .led) (a .place) (a .node) (c .before .before .before .before .before .if1 .left) (a .marks) (c .before .before .before .before .mark-fits .result) (c .before .before .before .before .before .before .before .pre .1 .0) (c .before .before .before .before .mark-fits .ensures) (not-false _ (c .before .before .before .if2 .left)) (c .if3 .taken)
+returns-3 c = let a = c .before .before .before .before .before .before .before .args in plain-fits (a .stage) (a .shape .height) (a .shape .distance) (a .there) (a .led) (a .place) (a .node) (c .before .before .before .before .before .if1 .left) (a .marks) (c .before .before .before .before .mark-fits .result) (c .before .before .before .before .before .before .before .pre .1) (c .before .before .before .before .mark-fits .ensures) (not-false _ (c .before .before .before .if2 .left)) (c .if3 .taken)
 
 returns-4 : tie.Need-returns-4
-returns-4 c = let a = c .before .before .before .before .before .before .before .before .before .args in no-pointer (a .stage) (a .shape .height) (a .shape .distance) (a .there) (a .led) (a .place) (a .node) (c .before .before .before .before .before .before .before .if1 .left) (a .marks) (c .before .before .before .before .before .before .mark-fits .result) (c .before .before .before .before .before .before .before .before .before .pre .1 .0) (c .before .before .before .before .before .before .mark-fits .ensures) _ (c .before .pointer-fits .ensures) (not-true _ (c .if4 .taken))
+returns-4 c = let a = c .before .before .before .before .before .before .before .before .before .args in no-pointer (a .stage) (a .shape .height) (a .shape .distance) (a .there) (a .led) (a .place) (a .node) (c .before .before .before .before .before .before .before .if1 .left) (a .marks) (c .before .before .before .before .before .before .mark-fits .result) (c .before .before .before .before .before .before .before .before .before .pre .1) (c .before .before .before .before .before .before .mark-fits .ensures) _ (c .before .pointer-fits .ensures) (not-true _ (c .if4 .taken))
 
 returns-5 : tie.Need-returns-5
-returns-5 c = let a = c .before .before .before .before .before .before .before .before .before .before .before .args in all-fit (a .stage) (a .shape .height) (a .shape .distance) (a .there) (a .led) (a .place) (a .node) (c .before .before .before .before .before .before .before .before .before .if1 .left) (a .marks) (c .before .before .before .before .before .before .before .before .mark-fits .result) (c .before .before .before .before .before .before .before .before .before .before .before .pre .1 .0) (c .before .before .before .before .before .before .before .before .mark-fits .ensures) _ _ (not-false _ (c .before .before .before .before .before .before .before .if2 .left)) (c .before .before .before .pointer-fits .ensures) (not-false _ (c .before .before .if4 .left)) (c .before .is-boundary .ensures)
+returns-5 c = let a = c .before .before .before .before .before .before .before .before .before .before .before .args in all-fit (a .stage) (a .shape .height) (a .shape .distance) (a .there) (a .led) (a .place) (a .node) (c .before .before .before .before .before .before .before .before .before .if1 .left) (a .marks) (c .before .before .before .before .before .before .before .before .mark-fits .result) (c .before .before .before .before .before .before .before .before .before .before .before .pre .1) (c .before .before .before .before .before .before .before .before .mark-fits .ensures) _ _ (not-false _ (c .before .before .before .before .before .before .before .if2 .left)) (c .before .before .before .pointer-fits .ensures) (not-false _ (c .before .before .if4 .left)) (c .before .is-boundary .ensures)
 
 pub node-fits-spec : {M : Type 1} → statement M
 node-fits-spec =

@@ -1,12 +1,12 @@
 -- `fits::slot_fits` meets its contract. Assumes nothing.
-use mathlib.Core.Path.{_≡_, refl, sym, ap}
+use mathlib.Core.Path.{_≡_, refl, sym, _∙_, ap}
 use mathlib.Core.Bool.{Bool, true, false, _&&_, _||_, not}
 use Prim.Native.Nat.{ℕ}
 use borrow.Author.Needs.{needs}
 use lib.Dec.{leb}
-use Rattle.steps.specs.Steps.{base}
-use Rattle.window.specs.declared.Way.{Way}
+use Rattle.steps.specs.Steps.{base, step, namer, joined}
 use Rattle.window.specs.Window.{reach}
+use Rattle.window.specs.LawsReach.{reach-there}
 use Rattle.window.specs.Formed.{isEmpty, slotFits}
 use Rattle.fits.proofs.slot_fits.Statement.{statement}
 use Rattle.fits.proofs.slot_fits.Tie as tie
@@ -21,13 +21,23 @@ full-fits : (there found : Bool) (growth : ℕ) (correction : Bool) → found �
 full-fits there found growth correction e f = rw e (ap (λ (x : Bool). leb growth 2 && x) (neither there (isEmpty growth && not correction) f))
 
 returns : tie.Need-returns
-returns c = empty-fits (reach base (c .before .args .shape .height) (c .before .args .shape .distance) (c .before .args .sheets) (c .before .args .pointer) (c .before .args .place) .there) (c .before .args .halves) (c .before .args .correction) (c .if1 .taken)
+returns c =
+    let a = c .before .args in
+    empty-fits (reach base (a .shape .height) (a .shape .distance) (a .sheets) (namer base (a .kind)) (a .place) .there) (a .halves) (a .correction) (c .if1 .taken)
 
-reach-requires : tie.Need-reach-requires
-reach-requires c κs = search needs
+namer-requires : tie.Need-namer-requires
+namer-requires c κs = search needs
+
+joined-requires : tie.Need-joined-requires
+joined-requires c κs = search needs
 
 returns-2 : tie.Need-returns-2
-returns-2 c = full-fits _ (c .before .reach .result .there) (c .before .before .before .args .halves) (c .before .before .before .args .correction) (ap (λ (y : Way). y .there) (c .before .reach .ensures)) (c .before .before .if1 .left)
+returns-2 c =
+    let a = c .before .before .before .args in
+    full-fits _ (c .joined .result) (a .halves) (a .correction)
+    (c .joined .ensures ∙ ap (λ (p : ℕ). joined (a .shape .height) (a .shape .distance) (a .sheets) (step base p) (a .place)) (c .before .namer .ensures)
+    ∙ sym (reach-there base (a .shape .height) (a .shape .distance) (a .sheets) (namer base (a .kind)) (a .place)))
+    (c .before .before .if1 .left)
 
 pub slot-fits-spec : {M : Type 1} → statement M
-slot-fits-spec = tie.close (tie.spec returns reach-requires returns-2)
+slot-fits-spec = tie.close (tie.spec returns namer-requires joined-requires returns-2)

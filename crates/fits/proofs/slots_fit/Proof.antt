@@ -1,48 +1,123 @@
 -- `fits::slots_fit` meets its contract. Assumes nothing.
-use mathlib.Core.Path.{_≡_, sym}
-use mathlib.Core.Bool.{Bool, true, _&&_, not}
-use Prim.Native.Nat.{ℕ}
+use mathlib.Core.Path.{_≡_, sym, _∙_, ap, subst}
+use mathlib.Core.Bool.{Bool, true, false}
+use mathlib.Core.List.{List}
+use Prim.Native.Nat.{ℕ, _+_, _-_, _*_, _≤_, _<_}
+use native.Mathlib.Nat.{mul-add, mul-one}
+use native.Mathlib.Omega.{arith}
 use borrow.Author.Needs.{needs}
-use Rattle.shape.specs.Ranges.{halves, both}
-use Rattle.steps.specs.Steps.{base}
+use borrow.Author.Tests.{not-true, not-false}
+use lib.ListN.{getD}
+use Rattle.shape.specs.declared.Place.{Place}
+use Rattle.steps.specs.Steps.{base, namer, slotIn}
+use Rattle.steps.specs.Slots.{slot-within}
+use Rattle.window.specs.Lists.{every}
+use Rattle.window.specs.LawsLists.{every-none, every-more, every-fails}
 use Rattle.window.specs.Window.{reach}
-use Rattle.window.specs.Formed.{isEmpty, slotFits}
+use Rattle.window.specs.Formed.{slotFits, slotBy}
 use Rattle.fits.proofs.slots_fit.Statement.{statement}
 use Rattle.fits.proofs.slots_fit.Tie as tie
-use Rattle.fits.proofs.Empty.{empty-fits}
 
-all-empty : (p q r : Bool) (e s u : ℕ) (x y z : Bool) → isEmpty e && isEmpty s && isEmpty u && (not x && not y && not z) ≡ true
-    → true ≡ slotFits p e x && slotFits q s y && slotFits r u z
-all-empty p q r e s u x y z t =
-    let a = halves (isEmpty e && isEmpty s && isEmpty u) (not x && not y && not z) t in
-    let m = halves (isEmpty e && isEmpty s) (isEmpty u) (a .0) in
-    let n = halves (not x && not y) (not z) (a .1) in
-    let i = halves (isEmpty e) (isEmpty s) (m .0) in
-    let j = halves (not x) (not y) (n .0) in
-    let f = sym (empty-fits p e x (both (isEmpty e) (not x) (i .0) (j .0))) in
-    let g = sym (empty-fits q s y (both (isEmpty s) (not y) (i .1) (j .1))) in
-    let h = sym (empty-fits r u z (both (isEmpty u) (not z) (m .1) (n .1))) in
-    sym (both (slotFits p e x && slotFits q s y) (slotFits r u z) (both (slotFits p e x) (slotFits q s y) f g) h)
+-- the slots of the first kinds have passed, and e is the slot of the next
+record Passed (f : ℕ → Bool) (n g kind e : ℕ) : Type 0 where
+  few : kind ≤ 3
+  next : e ≡ slotIn n kind g
+  passed : every kind f ≡ true
 
-each : (a b c x y z : Bool) → a ≡ x → b ≡ y → c ≡ z → a && b && c ≡ x && y && z
-each a b c x y z e f g = rw (e, f, g)
+module _ (h d k n : ℕ) (q : Place) (g : ℕ) (growth : List ℕ) (correction : List Bool) where
+  abbrev fits : ℕ → Bool
+  fits = slotBy base h d k n q g growth correction
 
-returns : tie.Need-returns
-returns c = let s = c .before .args in all-empty (reach base (s .shape .height) (s .shape .distance) (s .sheets) 3 (s .place) .there) (reach base (s .shape .height) (s .shape .distance) (s .sheets) 4 (s .place) .there) (reach base (s .shape .height) (s .shape .distance) (s .sheets) 6 (s .place) .there) (s .e) (s .s) (s .u) (s .fe) (s .fs) (s .fu) (c .if1 .taken)
+  module _ (kind e : ℕ) (p : Passed fits n g kind e) where
+    module _ (l : g < n) (m : kind < 3) where
+      low : e < 3 * n
+      low = omega (arith, p .next, slot-within n kind g l 3 m)
 
-slot-fits-requires : tie.Need-slot-fits-requires
+    fits-at : (a : Bool) → a ≡ slotFits (reach base h d k (namer base kind) q .there) (getD growth e 0) (getD correction e false) → a ≡ fits kind
+    fits-at a f = f ∙ ap (λ (i : ℕ). slotFits (reach base h d k (namer base kind) q .there) (getD growth i 0) (getD correction i false)) (p .next)
+
+    fails : (a : Bool) → kind < 3 → a ≡ fits kind → a ≡ false → false ≡ every 3 fits
+    fails a m f x = sym (every-fails fits 3 kind m (sym f ∙ x))
+
+    on : (a : Bool) → kind < 3 → a ≡ fits kind → a ≡ true → Passed fits n g (kind + 1) (e + n)
+    on a m f x =
+        let s : slotIn n (kind + 1) g ≡ slotIn n kind g + n = rw (mul-add n kind 1, mul-one n) (omega arith) in
+        record { few = omega arith; next = omega (arith, s, p .next); passed = every-more fits kind (p .passed) (sym f ∙ x) }
+
+    done : 3 ≤ kind → true ≡ every 3 fits
+    done m = let e : kind ≡ 3 = omega (arith, p .few) in sym (subst (λ (x : ℕ). every x fits ≡ true) e (p .passed))
+
+abbrev Inv-loop : tie.InvT-loop
+Inv-loop shape sheets n place g growth correction kind₀ e₀ kind e = Passed (fits (shape .height) (shape .distance) sheets n place g growth correction) n g kind e
+
+abbrev μ-loop : tie.MeasureT-loop
+μ-loop shape sheets n place g growth correction kind₀ e₀ kind e = 3 - kind
+
+loop-holds : tie.Need-loop-holds Inv-loop μ-loop
+loop-holds c =
+    let a = c .before .before .args in
+    record { few = omega arith; next = omega arith; passed = every-none (fits (a .shape .height) (a .shape .distance) (a .sheets) (a .n) (a .place) (a .g) (a .growth .now) (a .correction .now)) }
+
+shared-slice-read-slot-fits : tie.Need-shared-slice-read-slot-fits Inv-loop μ-loop
+shared-slice-read-slot-fits c =
+    let a = c .before .before .before .before .before .args in
+    let i = c .before .before .loop in
+    omega (arith, low (a .shape .height) (a .shape .distance) (a .sheets) (a .n) (a .place) (a .g) (a .growth .now) (a .correction .now) (i .kind) (i .e) (i .inv) (c .before .before .before .before .before .pre .0 .0) (c .before .loop-test .taken), c .before .before .before .before .before .pre .1 .0)
+
+shared-slice-read-slot-fits-2 : tie.Need-shared-slice-read-slot-fits-2 Inv-loop μ-loop
+shared-slice-read-slot-fits-2 c =
+    let a = c .before .before .before .before .before .before .args in
+    let i = c .before .before .before .loop in
+    omega (arith, low (a .shape .height) (a .shape .distance) (a .sheets) (a .n) (a .place) (a .g) (a .growth .now) (a .correction .now) (i .kind) (i .e) (i .inv) (c .before .before .before .before .before .before .pre .0 .0) (c .before .before .loop-test .taken), c .before .before .before .before .before .before .pre .1 .1)
+
+slot-fits-requires : tie.Need-slot-fits-requires Inv-loop μ-loop
 slot-fits-requires c κs = search needs
 
-slot-fits-requires-2 : tie.Need-slot-fits-requires-2
-slot-fits-requires-2 c κs = search needs
+returns : tie.Need-returns Inv-loop μ-loop
+returns c =
+    let a = c .before .before .before .before .before .before .before .before .args in
+    let i = c .before .before .before .before .before .loop in
+    fails (a .shape .height) (a .shape .distance) (a .sheets) (a .n) (a .place) (a .g) (a .growth .now) (a .correction .now) (i .kind) (i .e) (i .inv) _ (c .before .before .before .before .loop-test .taken)
+    (fits-at (a .shape .height) (a .shape .distance) (a .sheets) (a .n) (a .place) (a .g) (a .growth .now) (a .correction .now) (i .kind) (i .e) (i .inv) _ (c .before .slot-fits .ensures)) (not-true _ (c .if1 .taken))
 
-slot-fits-requires-3 : tie.Need-slot-fits-requires-3
-slot-fits-requires-3 c κs = search needs
+add-e : tie.Need-add-e Inv-loop μ-loop
+add-e c =
+    let a = c .before .before .before .before .before .before .before .before .args in
+    let i = c .before .before .before .before .before .loop in
+    omega (arith, low (a .shape .height) (a .shape .distance) (a .sheets) (a .n) (a .place) (a .g) (a .growth .now) (a .correction .now) (i .kind) (i .e) (i .inv) (c .before .before .before .before .before .before .before .before .pre .0 .0) (c .before .before .before .before .loop-test .taken), c .before .before .before .before .before .before .before .before .pre .0 .1)
 
-returns-2 : tie.Need-returns-2
-returns-2 c = each _ _ _ _ _ _ (c .before .before .slot-fits .ensures) (c .before .slot-fits2 .ensures) (c .slot-fits3 .ensures)
+add-kind : tie.Need-add-kind Inv-loop μ-loop
+add-kind c = search needs
+
+loop-less : tie.Need-loop-less Inv-loop μ-loop
+loop-less c = omega (arith, c .before .before .before .before .loop-test .taken)
+
+loop-again : tie.Need-loop-again Inv-loop μ-loop
+loop-again c =
+    let a = c .before .before .before .before .before .before .before .before .args in
+    let i = c .before .before .before .before .before .loop in
+    on (a .shape .height) (a .shape .distance) (a .sheets) (a .n) (a .place) (a .g) (a .growth .now) (a .correction .now) (i .kind) (i .e) (i .inv) _ (c .before .before .before .before .loop-test .taken)
+    (fits-at (a .shape .height) (a .shape .distance) (a .sheets) (a .n) (a .place) (a .g) (a .growth .now) (a .correction .now) (i .kind) (i .e) (i .inv) _ (c .before .slot-fits .ensures)) (not-false _ (c .if1 .left))
+
+returns-2 : tie.Need-returns-2 Inv-loop μ-loop
+returns-2 c =
+    let a = c .before .before .before .before .args in
+    let i = c .before .loop in
+    done (a .shape .height) (a .shape .distance) (a .sheets) (a .n) (a .place) (a .g) (a .growth .now) (a .correction .now) (i .kind) (i .e) (i .inv) (c .loop-test .left)
 
 pub slots-fit-spec : {M : Type 1} → statement M
 slots-fit-spec =
     tie.close
-    (tie.spec returns slot-fits-requires slot-fits-requires-2 slot-fits-requires-3 returns-2)
+    (tie.spec
+    Inv-loop
+    μ-loop
+    loop-holds
+    shared-slice-read-slot-fits
+    shared-slice-read-slot-fits-2
+    slot-fits-requires
+    returns
+    add-e
+    add-kind
+    loop-less
+    loop-again
+    returns-2)

@@ -1,26 +1,25 @@
 -- `formed::used_fit` meets its contract. Assumes nothing.
 use mathlib.Core.Path.{_≡_, refl, sym, _∙_, subst}
 use mathlib.Core.Bool.{Bool, true, false, _&&_}
-use Prim.Native.Nat.{ℕ, _≤_, _<_, _-_, _+_, _*_}
+use Prim.Native.Nat.{ℕ, _≤_, _<_, _-_}
 use native.Mathlib.Omega.{arith}
 use borrow.Author.Needs.{needs}
 use borrow.Author.Tests.{not-true, not-false}
-use lib.ListN.{getD}
-use native.Mathlib.Nat.{add-zero, le-antisymm}
-use Rattle.shape.specs.Sizes.{sheetsOf, maxNodes}
+use lib.ListN.{length, length-map, getD}
+use native.Mathlib.Nat.{le-antisymm}
+use Rattle.shape.specs.Sizes.{maxNodes}
 use Rattle.shape.specs.Ranges.{both}
 use Rattle.shape.specs.LawsIndex.{nodes-max}
 use Rattle.steps.specs.Steps.{base}
 use Rattle.shape.specs.declared.Place.{Place}
 use Rattle.walk.specs.Walk.{Stands}
-use Rattle.walk.specs.LawsWalk.{first-place, walks, stands, peopled, depth-low, three-kinds, named-east, named-south, named-up}
+use Rattle.walk.specs.LawsWalk.{first-place, walks, stands, peopled, depth-low}
 use Rattle.window.specs.declared.Node.{Node}
 use Rattle.window.specs.declared.Window.{Window}
 use Rattle.window.specs.Lists.{every}
 use Rattle.window.specs.LawsLists.{and-no, and-not, every-none, every-more, every-fails}
-use Rattle.window.specs.LawsPresent.{supplied-le, pointed-le}
-use Rattle.window.specs.Window.{beyond, namer, reach, size, present, pointed, at, place}
-use Rattle.window.specs.Formed.{nodeFits, slotFits, nodeFitsAt, slotFitsAt}
+use Rattle.window.specs.Window.{maxSlots, beyond, size, present, pointed, at, place}
+use Rattle.window.specs.Formed.{nodeFits, slotBy, nodeFitsAt, slotFitsAt}
 use Rattle.formed.proofs.used_fit.Statement.{statement}
 use Rattle.formed.proofs.used_fit.Tie as tie
 
@@ -48,19 +47,9 @@ module _ (w : Window) (g : ℕ) (q : Place) (e : q ≡ place w g) (there : ℕ) 
   node-fits-at : (led : ℕ) (n : Node) (a : Bool) → led ≡ pointed w → n ≡ at w g → a ≡ nodeFits base (w .stage) (w .shape .height) (w .shape .distance) there led q n → a ≡ nodeFitsAt base w g
   node-fits-at led n a l f p = p ∙ rw (so-many, l, e, f)
 
-  -- the slot of a kind, found by the pointer p and read at the place i
-  abbrev slotBy : ℕ → ℕ → Bool
-  slotBy p i =
-      slotFits (reach base (w .shape .height) (w .shape .distance) there p q .there) (getD (w .growth) i 0) (getD (w .correction) i false)
-
-  slot-at : (kind p i : ℕ) → namer base kind ≡ p → i ≡ 3 * g + kind → slotBy p i ≡ slotFitsAt base w g kind
+  slots-fit-at : (n : ℕ) (a : Bool) → n ≡ size w → a ≡ every 3 (slotBy base (w .shape .height) (w .shape .distance) there n q g (w .growth) (w .correction)) → a ≡ slotsFitAt w g
   unfolding slotFitsAt
-  slot-at kind p i f k = rw (f, three-kinds, so-many, e, k)
-
-  slots-fit-at : (a : Bool) → a ≡ slotBy 3 (3 * g) && slotBy 4 (3 * g + 1) && slotBy 6 (3 * g + 2) → a ≡ slotsFitAt w g
-  unfolding every
-  slots-fit-at a k =
-      k ∙ rw (slot-at 0 3 (3 * g) named-east (sym (add-zero (3 * g))), slot-at 1 4 (3 * g + 1) named-south refl, slot-at 2 6 (3 * g + 2) named-up refl)
+  slots-fit-at n a f k = k ∙ rw (so-many, e, f)
 
 -- the first g nodes and their slots have passed, and the walk stands at the next
 record Passed (w : Window) (n : ℕ) (q : Place) (g : ℕ) : Type 0 where
@@ -93,8 +82,17 @@ module _ (c : tie.In-loop Inv-loop μ-loop) where
 node-at : (c : tie.After-node-fits Inv-loop μ-loop) → c .node-fits .result ≡ nodeFitsAt base (c .before .before .before .before .before .before .before .before .before .args .t1) (c .before .before .before .loop .g)
 node-at c = node-fits-at (c .before .before .before .before .before .before .before .before .before .args .t1) (c .before .before .before .loop .g) (c .before .before .before .loop .place) (here (c .before .before)) _ (c .before .before .before .before .before .present .ensures) _ (getD (c .before .before .before .before .before .before .before .before .before .args .t1 .nodes) (c .before .before .before .loop .g) beyond) (c .node-fits .result) (c .before .before .before .before .pointed .ensures) refl (c .node-fits .ensures)
 
-slots-at : (c : tie.After-slots-fit Inv-loop μ-loop) → c .slots-fit .result ≡ slotsFitAt (c .before .before .before .before .before .before .before .before .before .before .before .before .before .before .before .before .before .args .t1) (c .before .before .before .before .before .before .before .before .before .before .before .loop .g)
-slots-at c = slots-fit-at (c .before .before .before .before .before .before .before .before .before .before .before .before .before .before .before .before .before .args .t1) (c .before .before .before .before .before .before .before .before .before .before .before .loop .g) (c .before .before .before .before .before .before .before .before .before .before .before .loop .place) (here (c .before .before .before .before .before .before .before .before .before .before)) _ (c .before .before .before .before .before .before .before .before .before .before .before .before .before .present .ensures) (c .slots-fit .result) (c .slots-fit .ensures)
+slots-at : (c : tie.After-slots-fit Inv-loop μ-loop) → c .slots-fit .result ≡ slotsFitAt (c .before .before .before .before .before .before .before .before .before .before .before .before .before .before .before .before .args .t1) (c .before .before .before .before .before .before .before .before .before .before .loop .g)
+slots-at c =
+    slots-fit-at (c .before .before .before .before .before .before .before .before .before .before .before .before .before .before .before .before .args .t1) (c .before .before .before .before .before .before .before .before .before .before .loop .g) (c .before .before .before .before .before .before .before .before .before .before .loop .place) (here (c .before .before .before .before .before .before .before .before .before)) _ (c .before .before .before .before .before .before .before .before .before .before .before .before .present .ensures)
+    _ (c .slots-fit .result) (c .before .before .before .before .before .before .before .before .before .before .before .before .before .before .nodes .ensures) (c .slots-fit .ensures)
+
+-- the lengths of the two arrays
+grows : (c : tie.Start Inv-loop μ-loop) → length (c .args .t1 .growth) ≡ maxSlots
+grows c = simp length-map at (c .good .0 .1 .1 .1 .1 .1 .1 .0 .1 .0 .1)
+
+flips : (c : tie.Start Inv-loop μ-loop) → length (c .args .t1 .correction) ≡ maxSlots
+flips c = simp length-map at (c .good .0 .1 .1 .1 .1 .1 .1 .1 .0 .1 .0 .1)
 
 nodes-requires : tie.Need-nodes-requires Inv-loop μ-loop
 nodes-requires c κs = search needs
@@ -119,69 +117,39 @@ element-copy-out-node c = low c
 
 node-fits-requires : tie.Need-node-fits-requires Inv-loop μ-loop
 node-fits-requires c κs =
-    let w = c .before .before .before .before .before .before .before .before .args .t1 in
-    (on (c .before), (c .before .before .before .before .before .numbers .ensures, rw (c .before .before .before .pointed .ensures) (pointed-le (w .shape .distance) (w .next) (w .stage))))
+    (on (c .before), c .before .before .before .before .before .numbers .ensures)
 
 returns : tie.Need-returns Inv-loop μ-loop
 returns c = no-node (c .before .before .before .before .before .before .before .before .before .before .args .t1) _ _ (counted (c .before .before .before)) (node-at (c .before)) (not-true _ (c .if1 .taken))
 
-mul-e : tie.Need-mul-e Inv-loop μ-loop
-mul-e c = omega (arith, low (c .before .before .before))
-
-element-copy-out-slots-fit : tie.Need-element-copy-out-slots-fit Inv-loop μ-loop
-element-copy-out-slots-fit c = omega (arith, low (c .before .before .before))
-
-add-slots-fit : tie.Need-add-slots-fit Inv-loop μ-loop
-add-slots-fit c = omega (arith, low (c .before .before .before .before))
-
-element-copy-out-slots-fit-2 : tie.Need-element-copy-out-slots-fit-2 Inv-loop μ-loop
-element-copy-out-slots-fit-2 c = omega (arith, low (c .before .before .before .before))
-
-add-slots-fit-2 : tie.Need-add-slots-fit-2 Inv-loop μ-loop
-add-slots-fit-2 c = omega (arith, low (c .before .before .before .before .before))
-
-element-copy-out-slots-fit-3 : tie.Need-element-copy-out-slots-fit-3 Inv-loop μ-loop
-element-copy-out-slots-fit-3 c = omega (arith, low (c .before .before .before .before .before))
-
-element-copy-out-slots-fit-4 : tie.Need-element-copy-out-slots-fit-4 Inv-loop μ-loop
-element-copy-out-slots-fit-4 c = omega (arith, low (c .before .before .before .before .before .before))
-
-add-slots-fit-3 : tie.Need-add-slots-fit-3 Inv-loop μ-loop
-add-slots-fit-3 c = omega (arith, low (c .before .before .before .before .before .before .before))
-
-element-copy-out-slots-fit-5 : tie.Need-element-copy-out-slots-fit-5 Inv-loop μ-loop
-element-copy-out-slots-fit-5 c = omega (arith, low (c .before .before .before .before .before .before .before))
-
-add-slots-fit-4 : tie.Need-add-slots-fit-4 Inv-loop μ-loop
-add-slots-fit-4 c = omega (arith, low (c .before .before .before .before .before .before .before .before))
-
-element-copy-out-slots-fit-6 : tie.Need-element-copy-out-slots-fit-6 Inv-loop μ-loop
-element-copy-out-slots-fit-6 c = omega (arith, low (c .before .before .before .before .before .before .before .before))
-
 slots-fit-requires : tie.Need-slots-fit-requires Inv-loop μ-loop
 slots-fit-requires c κs =
-    let w = c .before .before .before .before .before .before .before .before .before .before .before .before .before .before .before .before .args .t1 in
-    (on (c .before .before .before .before .before .before .before .before .before), omega (arith, c .before .before .before .before .before .before .before .before .before .before .before .before .present .ensures, supplied-le (w .shape .distance) (w .next) (sheetsOf (w .shape .distance))))
+    let w = c .before .before .before .before .before .before .before .before .before .before .before .before .before .before .before .args .t1 in
+    let l = counted (c .before .before .before .before .before .before .before .before) in
+    let n = c .before .before .before .before .before .before .before .before .before .before .before .before .before .nodes .ensures in
+    let m = nodes-max (w .shape .height) (w .shape .distance) in
+    ((omega arith, omega arith), (omega (arith, grows (c .before .before .before .before .before .before .before .before .before .before .before .before .before .before .before)), omega (arith, flips (c .before .before .before .before .before .before .before .before .before .before .before .before .before .before .before))))
 
 returns-2 : tie.Need-returns-2 Inv-loop μ-loop
-returns-2 c = no-slot (c .before .before .before .before .before .before .before .before .before .before .before .before .before .before .before .before .before .before .args .t1) _ _ (counted (c .before .before .before .before .before .before .before .before .before .before .before)) (slots-at (c .before)) (not-true _ (c .if2 .taken))
+returns-2 c = no-slot (c .before .before .before .before .before .before .before .before .before .before .before .before .before .before .before .before .before .args .t1) _ _ (counted (c .before .before .before .before .before .before .before .before .before .before)) (slots-at (c .before)) (not-true _ (c .if2 .taken))
 
 next-place-requires : tie.Need-next-place-requires Inv-loop μ-loop
-next-place-requires c κs = omega (arith, depth-low _ _ _ _ (on (c .before .before .before .before .before .before .before .before .before .before .before)))
+next-place-requires c κs = omega (arith, depth-low _ _ _ _ (on (c .before .before .before .before .before .before .before .before .before .before)))
 
 add-g : tie.Need-add-g Inv-loop μ-loop
-add-g c = omega (arith, low (c .before .before .before .before .before .before .before .before .before .before .before .before))
+add-g c = omega (arith, low (c .before .before .before .before .before .before .before .before .before .before .before))
 
 loop-less : tie.Need-loop-less Inv-loop μ-loop
-loop-less c = omega (arith, c .before .before .before .before .before .before .before .before .before .before .before .before .loop-test .taken)
+loop-less c = omega (arith, c .before .before .before .before .before .before .before .before .before .before .before .loop-test .taken)
 
 loop-again : tie.Need-loop-again Inv-loop μ-loop
-loop-again c = let w = c .before .before .before .before .before .before .before .before .before .before .before .before .before .before .before .before .before .before .before .args .t1 in
-    let l = c .before .before .before .before .before .before .before .before .before .before .before .before .before .loop in
+loop-again c =
+    let w = c .before .before .before .before .before .before .before .before .before .before .before .before .before .before .before .before .before .before .args .t1 in
+    let l = c .before .before .before .before .before .before .before .before .before .before .before .before .loop in
     record {
-      within = omega (arith, c .before .before .before .before .before .before .before .before .before .before .before .before .loop-test .taken);
+      within = omega (arith, c .before .before .before .before .before .before .before .before .before .before .before .loop-test .taken);
       stood = λ one. walks (w .shape .height) (w .shape .distance) (l .place) (c .next-place .result) (l .g) one (l .inv .stood one) (c .next-place .ensures);
-      nodes = every-more (nodeFitsAt base w) (l .g) (l .inv .nodes) (sym (node-at (c .before .before .before .before .before .before .before .before .before .before)) ∙ not-false _ (c .before .before .before .before .before .before .before .before .before .if1 .left));
+      nodes = every-more (nodeFitsAt base w) (l .g) (l .inv .nodes) (sym (node-at (c .before .before .before .before .before .before .before .before .before)) ∙ not-false _ (c .before .before .before .before .before .before .before .before .if1 .left));
       slots = every-more (slotsFitAt w) (l .g) (l .inv .slots) (sym (slots-at (c .before .before)) ∙ not-false _ (c .before .if2 .left));
     }
 
@@ -203,17 +171,6 @@ used-fit-spec =
     element-copy-out-node
     node-fits-requires
     returns
-    mul-e
-    element-copy-out-slots-fit
-    add-slots-fit
-    element-copy-out-slots-fit-2
-    add-slots-fit-2
-    element-copy-out-slots-fit-3
-    element-copy-out-slots-fit-4
-    add-slots-fit-3
-    element-copy-out-slots-fit-5
-    add-slots-fit-4
-    element-copy-out-slots-fit-6
     slots-fit-requires
     returns-2
     next-place-requires

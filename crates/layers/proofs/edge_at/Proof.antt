@@ -6,16 +6,18 @@ use mathlib.Core.Bool.{true, _&&_}
 use lib.Dec.{ltb}
 use borrow.Author.Tests.{not-true, not-false}
 use Rattle.shape.specs.Choice.{if-true, if-false}
-use Rattle.layers.specs.Layer.{isEdge, edgeOf, edgeAt}
+use Rattle.steps.specs.Steps.{base}
+use Rattle.layers.specs.Layers.{isEdge, edgeOf, edgeAt}
+use Rattle.layers.specs.Document.{count-0}
 use Rattle.layers.specs.declared.EdgeFound.the-variants as listed
 use Rattle.layers.proofs.edge_at.Statement.{statement}
 use Rattle.layers.proofs.edge_at.Tie as tie
 
 fine : (c : tie.Else1) →
-    isEdge (c .before .before .before .args .shape .height) (c .before .before .before .args .shape .distance)
+    isEdge base (c .before .before .before .args .shape .height) (c .before .before .before .args .shape .distance)
     (c .before .before .before .args .e) ≡ true
 fine c =
-    rw (c .before .layer-edges .ensures, c .before .before .ranged .ensures) at (not-false (c .before .before .ranged .result && ltb
+    rw (c .before .layer-edges .ensures, c .before .before .ranged .ensures, ← count-0) at (not-false (c .before .before .ranged .result && ltb
     (c .before .before .before .args .e) (c .before .layer-edges .result)) (c .if1 .left))
 
 ranged-requires : tie.Need-ranged-requires
@@ -28,8 +30,8 @@ returns : tie.Need-returns
 unfolding edgeAt
 returns c =
     let a = c .before .before .before .args in
-    sym (if-false (isEdge (a .shape .height) (a .shape .distance) (a .e)) (listed.Edge (edgeOf (a .shape .height) (a .shape .distance)
-    (a .e))) listed.Nothing (rw (c .before .layer-edges .ensures, c .before .before .ranged .ensures) at (not-true
+    sym (if-false (isEdge base (a .shape .height) (a .shape .distance) (a .e)) (listed.Edge (edgeOf base (a .shape .height) (a .shape .distance)
+    (a .e))) listed.Nothing (rw (c .before .layer-edges .ensures, c .before .before .ranged .ensures, ← count-0) at (not-true
     (c .before .before .ranged .result && ltb (c .before .before .before .args .e) (c .before .layer-edges .result)) (c .if1 .taken))))
 
 edge-of-requires : tie.Need-edge-of-requires
@@ -39,7 +41,7 @@ returns-2 : tie.Need-returns-2
 unfolding edgeAt
 returns-2 c =
     let a = c .before .before .before .before .args in
-    rw (c .edge-of .ensures) (sym (if-true (isEdge (a .shape .height) (a .shape .distance) (a .e)) (listed.Edge (edgeOf (a .shape .height)
+    rw (c .edge-of .ensures) (sym (if-true (isEdge base (a .shape .height) (a .shape .distance) (a .e)) (listed.Edge (edgeOf base (a .shape .height)
     (a .shape .distance) (a .e))) listed.Nothing (fine (c .before))))
 
 pub edge-at-spec : {M : Type 1} → statement M

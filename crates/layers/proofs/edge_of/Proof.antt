@@ -1,11 +1,11 @@
 -- `layers::edge_of` meets its contract.
 -- Assumes nothing.
 use borrow.Author.Needs.{needs}
-use mathlib.Core.Path.{sym}
+use mathlib.Core.Path.{sym, _∙_}
 use Prim.Native.Nat.{_≤_, _<_}
 use Rattle.layers.specs.Layer.{rowEdges, sheetEdges}
 use Rattle.layers.specs.Cases.{edge-row, edge-column, edge-time}
-use Rattle.layers.proofs.Parts.{rowed-row, rowed-column, rowed-time}
+use Rattle.layers.proofs.Parts.{edge-is, rowed-row, rowed-column, rowed-time}
 use Rattle.layers.proofs.edge_of.Statement.{statement}
 use Rattle.layers.proofs.edge_of.Tie as tie
 
@@ -73,8 +73,8 @@ edge-in-requires c κs =
 returns : tie.Need-returns
 returns c =
     let a = c .before .before .before .before .before .before .args in
-    rw (c .edge-in .ensures, c .before .before .before .before .before .wide .ensures) (sym (edge-row (a .shape .height)
-    (a .shape .distance) (a .e) (along-row (c .before))))
+    rw (c .edge-in .ensures, c .before .before .before .before .before .wide .ensures) (sym (edge-is (a .shape .height) (a .shape .distance) (a .e)
+    (c .before .before .before .before .before .before .pre) ∙ edge-row (a .shape .height) (a .shape .distance) (a .e) (along-row (c .before))))
 
 less-one-requires-2 : tie.Need-less-one-requires-2
 less-one-requires-2 c κs = search needs
@@ -106,8 +106,8 @@ returns-2 c =
       c .before .before .before .before .before .before .before .less-one .ensures,
       c .before .before .before .before .before .before .wide2 .ensures,
       c .before .before .before .before .before .before .before .before .wide .ensures,
-    ) (sym (edge-column (a .shape .height)
-    (a .shape .distance) (a .e) (past-rows (c .before .before .before .before)) (between-rows (c .before))))
+    ) (sym (edge-is (a .shape .height) (a .shape .distance) (a .e)
+    (c .before .before .before .before .before .before .before .before .before .pre) ∙ edge-column (a .shape .height) (a .shape .distance) (a .e) (past-rows (c .before .before .before .before)) (between-rows (c .before))))
 
 edge-in-requires-3 : tie.Need-edge-in-requires-3
 edge-in-requires-3 c κs =
@@ -134,8 +134,8 @@ returns-3 c =
       c .before .before .before .before .before .before .before .less-one .ensures,
       c .before .before .before .before .before .before .wide2 .ensures,
       c .before .before .before .before .before .before .before .before .wide .ensures,
-    ) (sym (edge-time (a .shape .height)
-    (a .shape .distance) (a .e) (past-sheet (c .before))))
+    ) (sym (edge-is (a .shape .height) (a .shape .distance) (a .e)
+    (c .before .before .before .before .before .before .before .before .before .pre) ∙ edge-time (a .shape .height) (a .shape .distance) (a .e) (past-sheet (c .before))))
 
 pub edge-of-spec : {M : Type 1} → statement M
 edge-of-spec =

@@ -9,13 +9,13 @@ use lib.ListN.{length, take, replicate}
 use lib.Seq.{length-take-le}
 use Rattle.shape.specs.Sizes.{maxDetectors}
 use Rattle.shape.specs.LawsSizes.{detectors-le}
-use Rattle.shape.specs.Ranges.{ranged}
 use Rattle.steps.specs.Steps.{base}
 use Rattle.window.specs.LawsLists.{Fills, part-fits, part-back, part-long}
 use Rattle.window.specs.Measured.{differences, asSheet, withSheet, measuring}
 use Rattle.window.specs.LawsMeasured.{differences-long}
 use Rattle.window.specs.Calls.{Round, asRound, receiving, receivingRaw}
 use Rattle.window.specs.declared.Window.{Window}
+use Rattle.closure.specs.Facts.{facts}
 use Rattle.raw.proofs.raw.Statement.{statement}
 use Rattle.raw.proofs.raw.Tie as tie
 
@@ -26,7 +26,7 @@ after w v bytes defects edges escapes sheet d e s =
     ap (λ (r : Round). asRound (withSheet (r .window) sheet) (r .edges) (r .escapes)) (e ∙ ap (receiving base w) d) ∙ rw s
 
 low : (c : tie.Start) → length (c .args .bytes .now) ≤ maxDetectors
-low c = omega (arith, c .pre .1 .1 .0, detectors-le (c .args .w .shape .height) (c .args .w .shape .distance) (ranged _ _ (c .pre .0)))
+low c = omega (arith, c .pre .1 .1 .1 .0, detectors-le (c .args .w .shape .height) (c .args .w .shape .distance) (facts base (c .args .w) (c .pre .0) .ranged))
 
 lent : (c : tie.Start) → length (take (length (c .args .bytes .now)) (replicate {A = ℕ} maxDetectors 0)) ≡ length (c .args .bytes .now)
 lent c = length-take-le _ _ (low c)
@@ -56,7 +56,7 @@ round-requires : tie.Need-round-requires
 round-requires c κs =
     let d = c .before .before .before .before in
     let p = d .before .before .before .before .before .before .before .before .pre in
-    (p .0, (p .1 .0, (part-long (full d) _ ∙ p .1 .1 .0, p .1 .1 .1)))
+    (p .0, (p .1 .0, (p .1 .1 .0, (part-long (full d) _ ∙ p .1 .1 .1 .0, p .1 .1 .1 .1))))
 
 same-length : tie.Need-same-length
 same-length c = search needs

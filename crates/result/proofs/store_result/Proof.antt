@@ -7,7 +7,7 @@ use Rattle.refusal.specs.Writing.{Buffered, buffered}
 use Rattle.refusal.specs.Answer.{Answer, done, turned, isDone, valueOr}
 use Rattle.refusal.specs.Laws.{turned-not, undone}
 use Rattle.refusal.specs.declared.Refusal.{Refusal}
-use Rattle.list.specs.Sheet.{listAt, listAnswer, listBuffered, readInto, readList}
+use Rattle.list.specs.Sheet.{listAt, listAnswer, listBuffered, readInto}
 use Rattle.list.specs.declared.Listed.{Listed}
 use Rattle.list.specs.declared.Listed.the-variants.{To, Refused}
 use Rattle.record.specs.Records.{Result, resultFrom, resultEdges, resultEscapes}
@@ -17,10 +17,10 @@ use Rattle.result.proofs.store_result.Statement.{statement}
 use Rattle.result.proofs.store_result.Tie as tie
 
 -- what a reading of a list that can be read leaves
-module _ (s : List ℕ) (at : ℕ) (old new : List ℕ) (r : Listed) (e : listBuffered r new ≡ readList s at old) (entries : List ℕ) (next : ℕ)
+module _ (s : List ℕ) (at : ℕ) (old new : List ℕ) (r : Listed) (e : listBuffered r new ≡ readInto (listAt s (length old) at) new) (entries : List ℕ) (next : ℕ)
     (d : listAt s (length old) at ≡ done entries next) where
   read : listBuffered r new ≡ buffered (done tt next) entries
-  read = e ∙ ap (λ (a : Answer (List ℕ)). readInto a old) d
+  read = e ∙ ap (λ (a : Answer (List ℕ)). readInto a new) d
 
   entries-are : new ≡ entries
   entries-are = ap (λ (x : Buffered). x .buffer) read
@@ -41,8 +41,8 @@ module _ (s : List ℕ) (edges detectors at : ℕ) (p : ResultParts s edges dete
   escapes-kept : p .escaped ≡ valueOr (resultFrom s edges detectors at) resultEscapes old
   escapes-kept = sym (ap (λ (a : Answer Result). valueOr a resultEscapes old) (p .whole))
 
-read-list-requires : tie.Need-read-list-requires
-read-list-requires c κs = search needs
+store-list-requires : tie.Need-store-list-requires
+store-list-requires c κs = search needs
 
 enum-known-first : tie.Need-enum-known-first
 enum-known-first c = search needs
@@ -58,11 +58,11 @@ returns c =
     let s = c .before .before .before .before .before .before .before .before .before in
     let a = s .args in
     let p = result-parts (a .src .now) (length (a .edges .now)) (length (a .escapes .now)) (a .at) (s .pre) in
-    let r = c .before .before .before .before .read-list in
+    let r = c .before .before .before .before .store-list in
     absurd (not-refused (a .src .now) (a .at) (a .edges .now) (r .last .1 .1 .0) (r .result) (r .ensures) (p .committed) (p .next) (p .edges-read) (c .enum-told .given .0 .0) (c .enum-told .given .1))
 
-read-list-requires-2 : tie.Need-read-list-requires-2
-read-list-requires-2 c κs = search needs
+store-list-requires-2 : tie.Need-store-list-requires-2
+store-list-requires-2 c κs = search needs
 
 same-length-2 : tie.Need-same-length-2
 same-length-2 c = search needs
@@ -75,8 +75,8 @@ returns-2 c =
     let s = c .before .before .before .before .before .before .before .before .before .before .before .before .before .before in
     let a = s .args in
     let p = result-parts (a .src .now) (length (a .edges .now)) (length (a .escapes .now)) (a .at) (s .pre) in
-    let r = c .before .before .before .before .before .before .before .before .before .read-list in
-    let q = c .before .before .read-list2 in
+    let r = c .before .before .before .before .before .before .before .before .before .store-list in
+    let q = c .before .before .store-list2 in
     let k = c .before .before .before .before .before .first .given in
     let n = next-is (a .src .now) (a .at) (a .edges .now) (r .last .1 .1 .0) (r .result) (r .ensures) (p .committed) (p .next) (p .edges-read) (k .0 .0) (k .1) in (
       entries-are (a .src .now) (a .at) (a .edges .now) (r .last .1 .1 .0) (r .result) (r .ensures) (p .committed) (p .next) (p .edges-read) ∙ edges-kept (a .src .now) (length (a .edges .now)) (length (a .escapes .now)) (a .at) p (a .edges .now),
@@ -87,12 +87,12 @@ pub store-result-spec : {M : Type 1} → statement M
 store-result-spec =
     tie.close
     (tie.spec
-    read-list-requires
+    store-list-requires
     enum-known-first
     enum-told
     same-length
     returns
-    read-list-requires-2
+    store-list-requires-2
     same-length-2
     same-length-3
     returns-2)

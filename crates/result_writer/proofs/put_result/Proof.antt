@@ -3,11 +3,12 @@ use mathlib.Core.Path.{_≡_, sym}
 use mathlib.Core.List.{List, [], _++_}
 use Prim.Native.Nat.{ℕ, _+_, _-_, _≤_}
 use native.Mathlib.Omega.{arith}
-use lib.ListN.{length}
+use lib.ListN.{length, drop, length-drop, length-append}
+use lib.Seq.{length-take-le}
 use Rattle.refusal.specs.Writing.{putTo, front}
 use Rattle.refusal.specs.Filling.{front-full}
 use Rattle.refusal.specs.Tails.{tail, putBack}
-use Rattle.refusal.specs.Parts.{Parts, parts-first, parts-more, parts-last, parts-end, parts-inside}
+use Rattle.refusal.specs.Parts.{Parts, parts-first, parts-more, parts-last, parts-end, parts-inside, parts-left, parts-length}
 use Rattle.number.specs.Number.{written}
 use Rattle.list.specs.Sheet.{listed}
 use Rattle.record.specs.Records.{Result, result}
@@ -21,6 +22,12 @@ module _ (r : Result) (old : List ℕ) (h : length (result r) ≤ length old) (i
   first : Parts (result r) old out i (listed (r .escapes) ++ written (r .steps))
   first = parts-first (result r) old (listed (r .edges)) (listed (r .escapes) ++ written (r .steps)) i out (result-is r) h put
 
+  -- the tail has room for the escapes
+  tail-room : length (listed (r .escapes)) ≤ length (tail out i)
+  tail-room =
+      let long = length-take-le (length out - i) (drop i out) (omega (arith, length-drop i out)) in
+      omega (arith, long, parts-left first, first .room, parts-length first, length-append (listed (r .escapes)) (written (r .steps)))
+
   module _ (n : ℕ) (last : List ℕ) (put2 : putTo n last ≡ front (tail out i) (listed (r .escapes))) where
     second : Parts (result r) old (putBack out i last) (i + n) (written (r .steps))
     second = parts-more (result r) old out i (listed (r .escapes)) (written (r .steps)) n last first put2
@@ -32,59 +39,53 @@ module _ (r : Result) (old : List ℕ) (h : length (result r) ≤ length old) (i
       all : putTo (i + n + m) (putBack (putBack out i last) (i + n) end) ≡ front old (result r)
       all = parts-end (result r) old (putBack (putBack out i last) (i + n) end) (i + n + m) third
 
+abbrev of : tie.Start → Result
+of s = asResult (s .args .edges .now) (s .args .escapes .now) (s .args .steps)
+
 -- the record has room
-fits : (c : tie.After-slice-known2) → let a = c .before .before .before .before .before .before .before .before .before .before .before .before .before .args in length (result (asResult (a .edges .now) (a .escapes .now) (a .steps))) ≤ length (a .out .now)
+fits : (c : tie.After-slice-known2) → length (result (of (c .before .before .before .before .before .before .before .before .before .before .before .before .before .before .before .before))) ≤ length (c .before .before .before .before .before .before .before .before .before .before .before .before .before .before .before .before .args .out .now)
 fits c =
-    let a = c .before .before .before .before .before .before .before .before .before .before .before .before .before .args in
-    omega (arith, result-long (asResult (a .edges .now) (a .escapes .now) (a .steps)), c .before .before .before .before .before .before .before .before .before .list-len .ensures, c .before .before .before .before .before .before .before .list-len2 .ensures, c .before .before .before .before .before .number-len .ensures, c .before .before .before .before .before .before .before .before .if1 .left, c .before .before .before .before .before .before .if2 .left, c .before .before .before .before .if3 .left)
+    let s = c .before .before .before .before .before .before .before .before .before .before .before .before .before .before .before .before in
+    omega (arith, result-long (of s), s .pre .0 .bytes-are, s .pre .1 .bytes-are, c .before .before .before .before .before .number-len .ensures, c .before .before .before .before .before .before .before .before .before .before .before .if1 .left, c .before .before .before .before .before .before .before .before .if2 .left, c .before .before .before .before .if3 .left)
 
 put-first : (c : tie.After-slice-known2)
-    → let a = c .before .before .before .before .before .before .before .before .before .before .before .before .before .args in
-    Parts (result (asResult (a .edges .now) (a .escapes .now) (a .steps))) (a .out .now) (c .before .before .put-list .last .1 .0) (c .before .before .put-list .result) (listed (a .escapes .now) ++ written (a .steps))
+    → let a = c .before .before .before .before .before .before .before .before .before .before .before .before .before .before .before .before .args in
+    let p = c .before .before .put-measured in
+    Parts (result (of (c .before .before .before .before .before .before .before .before .before .before .before .before .before .before .before .before))) (a .out .now) (p .last .1 .1 .0) (p .result) (listed (a .escapes .now) ++ written (a .steps))
 put-first c =
-    let a = c .before .before .before .before .before .before .before .before .before .before .before .before .before .args in
-    let p = c .before .before .put-list in
-    first (asResult (a .edges .now) (a .escapes .now) (a .steps)) (a .out .now) (fits c) (p .result) (p .last .1 .0) (p .ensures)
+    let p = c .before .before .put-measured in
+    first (of (c .before .before .before .before .before .before .before .before .before .before .before .before .before .before .before .before)) (c .before .before .before .before .before .before .before .before .before .before .before .before .before .before .before .before .args .out .now) (fits c) (p .result) (p .last .1 .1 .0) (p .ensures)
 
 put-second : (c : tie.After-slice-known3)
-    → let a = c .before .before .before .before .before .before .before .before .before .before .before .before .before .before .before .before .before .args in
-    let p = c .before .before .before .before .before .before .put-list in
-    let q = c .before .before .put-list2 in
-    Parts (result (asResult (a .edges .now) (a .escapes .now) (a .steps))) (a .out .now) (putBack (p .last .1 .0) (p .result) (q .last .1 .0)) (p .result + q .result) (written (a .steps))
+    → let a = c .before .before .before .before .before .before .before .before .before .before .before .before .before .before .before .before .before .before .before .before .args in
+    let p = c .before .before .before .before .before .before .put-measured in
+    let q = c .before .before .put-measured2 in
+    Parts (result (of (c .before .before .before .before .before .before .before .before .before .before .before .before .before .before .before .before .before .before .before .before))) (a .out .now) (putBack (p .last .1 .1 .0) (p .result) (q .last .1 .1 .0)) (p .result + q .result) (written (a .steps))
 put-second c =
-    let a = c .before .before .before .before .before .before .before .before .before .before .before .before .before .before .before .before .before .args in
-    let p = c .before .before .before .before .before .before .put-list in
-    let q = c .before .before .put-list2 in
-    second (asResult (a .edges .now) (a .escapes .now) (a .steps)) (a .out .now) (fits (c .before .before .before .before)) (p .result) (p .last .1 .0) (p .ensures) (q .result) (q .last .1 .0) (q .ensures)
+    let p = c .before .before .before .before .before .before .put-measured in
+    let q = c .before .before .put-measured2 in
+    second (of (c .before .before .before .before .before .before .before .before .before .before .before .before .before .before .before .before .before .before .before .before)) (c .before .before .before .before .before .before .before .before .before .before .before .before .before .before .before .before .before .before .before .before .args .out .now) (fits (c .before .before .before .before)) (p .result) (p .last .1 .1 .0) (p .ensures) (q .result) (q .last .1 .1 .0) (q .ensures)
 
 put-third : (c : tie.After-slice-known4)
-    → let a = c .before .before .before .before .before .before .before .before .before .before .before .before .before .before .before .before .before .before .before .before .before .args in
-    let p = c .before .before .before .before .before .before .before .before .before .before .put-list in
-    let q = c .before .before .before .before .before .before .put-list2 in
+    → let p = c .before .before .before .before .before .before .before .before .before .before .put-measured in
+    let q = c .before .before .before .before .before .before .put-measured2 in
     let n = c .before .before .put-number in
-    Parts (result (asResult (a .edges .now) (a .escapes .now) (a .steps))) (a .out .now) (putBack (putBack (p .last .1 .0) (p .result) (q .last .1 .0)) (p .result + q .result) (n .last .1 .0)) (p .result + q .result + n .result) []
+    Parts (result (of (c .before .before .before .before .before .before .before .before .before .before .before .before .before .before .before .before .before .before .before .before .before .before .before .before))) (c .before .before .before .before .before .before .before .before .before .before .before .before .before .before .before .before .before .before .before .before .before .before .before .before .args .out .now) (putBack (putBack (p .last .1 .1 .0) (p .result) (q .last .1 .1 .0)) (p .result + q .result) (n .last .1 .0)) (p .result + q .result + n .result) []
 put-third c =
-    let a = c .before .before .before .before .before .before .before .before .before .before .before .before .before .before .before .before .before .before .before .before .before .args in
-    let p = c .before .before .before .before .before .before .before .before .before .before .put-list in
-    let q = c .before .before .before .before .before .before .put-list2 in
+    let p = c .before .before .before .before .before .before .before .before .before .before .put-measured in
+    let q = c .before .before .before .before .before .before .put-measured2 in
     let n = c .before .before .put-number in
-    third (asResult (a .edges .now) (a .escapes .now) (a .steps)) (a .out .now) (fits (c .before .before .before .before .before .before .before .before)) (p .result) (p .last .1 .0) (p .ensures) (q .result) (q .last .1 .0) (q .ensures) (n .result) (n .last .1 .0) (n .ensures)
-
-list-len-requires : tie.Need-list-len-requires
-list-len-requires c κs = search needs
+    third (of (c .before .before .before .before .before .before .before .before .before .before .before .before .before .before .before .before .before .before .before .before .before .before .before .before)) (c .before .before .before .before .before .before .before .before .before .before .before .before .before .before .before .before .before .before .before .before .before .before .before .before .args .out .now) (fits (c .before .before .before .before .before .before .before .before)) (p .result) (p .last .1 .1 .0) (p .ensures) (q .result) (q .last .1 .1 .0) (q .ensures) (n .result) (n .last .1 .0) (n .ensures)
 
 returns : tie.Need-returns
 returns c =
-    let a = c .before .before .before .before .before .args in
-    sym (front-full (a .out .now) (result (asResult (a .edges .now) (a .escapes .now) (a .steps))) (omega (arith, result-long (asResult (a .edges .now) (a .escapes .now) (a .steps)), c .before .list-len .ensures, c .if1 .taken)))
-
-list-len-requires-2 : tie.Need-list-len-requires-2
-list-len-requires-2 c κs = search needs
+    let s = c .before .before .before .before .before in
+    sym (front-full (s .args .out .now) (result (of s)) (omega (arith, result-long (of s), s .pre .0 .bytes-are, c .if1 .taken)))
 
 returns-2 : tie.Need-returns-2
 returns-2 c =
-    let a = c .before .before .before .before .before .before .before .args in
-    sym (front-full (a .out .now) (result (asResult (a .edges .now) (a .escapes .now) (a .steps))) (omega (arith, result-long (asResult (a .edges .now) (a .escapes .now) (a .steps)), c .before .before .before .list-len .ensures, c .before .list-len2 .ensures, c .if2 .taken)))
+    let s = c .before .before .before .before .before .before .before .before in
+    sym (front-full (s .args .out .now) (result (of s)) (omega (arith, result-long (of s), s .pre .0 .bytes-are, s .pre .1 .bytes-are, c .if2 .taken)))
 
 sub-if3 : tie.Need-sub-if3
 sub-if3 c = search needs
@@ -94,26 +95,29 @@ number-len-requires c κs = search needs
 
 returns-3 : tie.Need-returns-3
 returns-3 c =
-    let a = c .before .before .before .before .before .before .before .before .before .args in
-    sym (front-full (a .out .now) (result (asResult (a .edges .now) (a .escapes .now) (a .steps))) (omega (arith, result-long (asResult (a .edges .now) (a .escapes .now) (a .steps)), c .before .before .before .before .before .list-len .ensures, c .before .before .before .list-len2 .ensures, c .before .number-len .ensures, c .if3 .taken)))
+    let s = c .before .before .before .before .before .before .before .before .before .before .before .before in
+    sym (front-full (s .args .out .now) (result (of s)) (omega (arith, result-long (of s), s .pre .0 .bytes-are, s .pre .1 .bytes-are, c .before .number-len .ensures, c .if3 .taken)))
 
-put-list-requires : tie.Need-put-list-requires
-put-list-requires c κs = search needs
+put-measured-requires : tie.Need-put-measured-requires
+put-measured-requires c κs = (c .before .before .before .before .before .before .before .before .before .before .before .before .before .pre .0 .count-is, omega (arith, c .before .before .before .before .before .before .before .before .before .before .before .before .before .pre .0 .bytes-are, c .before .before .before .before .before .before .before .before .if1 .left))
 
-sub-put-list : tie.Need-sub-put-list
-sub-put-list c = parts-inside (put-first c)
+sub-put-measured : tie.Need-sub-put-measured
+sub-put-measured c = parts-inside (put-first c)
 
-part-put-list-start : tie.Need-part-put-list-start
-part-put-list-start c = parts-inside (put-first c)
+part-put-measured-start : tie.Need-part-put-measured-start
+part-put-measured-start c = parts-inside (put-first c)
 
-part-put-list-end : tie.Need-part-put-list-end
-part-put-list-end c = search needs
+part-put-measured-end : tie.Need-part-put-measured-end
+part-put-measured-end c = search needs
 
-put-list-requires-2 : tie.Need-put-list-requires-2
-put-list-requires-2 c κs = search needs
+put-measured-requires-2 : tie.Need-put-measured-requires-2
+put-measured-requires-2 c κs =
+    let s = c .before .before .before .before .before .before .before .before .before .before .before .before .before .before .before .before .before in
+    let p = c .before .before .before .put-measured in
+    (s .pre .1 .count-is, tail-room (of s) (s .args .out .now) (fits (c .before)) (p .result) (p .last .1 .1 .0) (p .ensures))
 
 add-j : tie.Need-add-j
-add-j c = omega (arith, put-second c .within, put-second c .room, c .before .before .before .before .before .before .before .before .before .before .before .before .before .before .before .before .before .good)
+add-j c = omega (arith, put-second c .within, put-second c .room, c .before .before .before .before .before .before .before .before .before .before .before .before .before .before .before .before .before .before .before .before .good)
 
 sub-put-number : tie.Need-sub-put-number
 sub-put-number c = parts-inside (put-second c)
@@ -128,35 +132,33 @@ put-number-requires : tie.Need-put-number-requires
 put-number-requires c κs = search needs
 
 add-result : tie.Need-add-result
-add-result c = omega (arith, put-third c .within, put-third c .room, c .before .before .before .before .before .before .before .before .before .before .before .before .before .before .before .before .before .before .before .before .before .good)
+add-result c = omega (arith, put-third c .within, put-third c .room, c .before .before .before .before .before .before .before .before .before .before .before .before .before .before .before .before .before .before .before .before .before .before .before .before .good)
 
 same-length : tie.Need-same-length
 same-length c = search needs
 
 returns-4 : tie.Need-returns-4
 returns-4 c =
-    let a = c .before .before .before .before .before .before .before .before .before .before .before .before .before .before .before .before .before .before .before .before .before .args in
-    let p = c .before .before .before .before .before .before .before .before .before .before .put-list in
-    let q = c .before .before .before .before .before .before .put-list2 in
+    let s = c .before .before .before .before .before .before .before .before .before .before .before .before .before .before .before .before .before .before .before .before .before .before .before .before in
+    let p = c .before .before .before .before .before .before .before .before .before .before .put-measured in
+    let q = c .before .before .before .before .before .before .put-measured2 in
     let n = c .before .before .put-number in
-    all (asResult (a .edges .now) (a .escapes .now) (a .steps)) (a .out .now) (fits (c .before .before .before .before .before .before .before .before)) (p .result) (p .last .1 .0) (p .ensures) (q .result) (q .last .1 .0) (q .ensures) (n .result) (n .last .1 .0) (n .ensures)
+    all (of s) (s .args .out .now) (fits (c .before .before .before .before .before .before .before .before)) (p .result) (p .last .1 .1 .0) (p .ensures) (q .result) (q .last .1 .1 .0) (q .ensures) (n .result) (n .last .1 .0) (n .ensures)
 
 pub put-result-spec : {M : Type 1} → statement M
 put-result-spec =
     tie.close
     (tie.spec
-    list-len-requires
     returns
-    list-len-requires-2
     returns-2
     sub-if3
     number-len-requires
     returns-3
-    put-list-requires
-    sub-put-list
-    part-put-list-start
-    part-put-list-end
-    put-list-requires-2
+    put-measured-requires
+    sub-put-measured
+    part-put-measured-start
+    part-put-measured-end
+    put-measured-requires-2
     add-j
     sub-put-number
     part-put-number-start

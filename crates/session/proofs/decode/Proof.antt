@@ -3,9 +3,8 @@ use mathlib.Core.Path.{sym, _∙_, ap}
 use native.Mathlib.Omega.{arith}
 use borrow.Author.Needs.{needs}
 use Rattle.record.specs.Calls.{headerAnswer}
-use Rattle.window.specs.Calls.{callAnswer}
 use Rattle.decoding.specs.Answers.{lineOf}
-use Rattle.session.proofs.Whole.{Put, header-refused, header-full, rounds-behind}
+use Rattle.session.proofs.Whole.{Put, range, header-refused, header-full, rounds-behind}
 use Rattle.session.proofs.decode.Statement.{statement}
 use Rattle.session.proofs.decode.Tie as tie
 
@@ -41,17 +40,8 @@ enum-known-f-2 c = search needs
 enum-known-to : tie.Need-enum-known-to
 enum-known-to c = search needs
 
-cast-fresh : tie.Need-cast-fresh
-cast-fresh c = search needs
-
-cast-fresh-2 : tie.Need-cast-fresh-2
-cast-fresh-2 c = search needs
-
-fresh-requires : tie.Need-fresh-requires
-fresh-requires c κs = search needs
-
-decode-rounds-requires : tie.Need-decode-rounds-requires
-decode-rounds-requires c κs = search needs
+decode-fresh-requires : tie.Need-decode-fresh-requires
+decode-fresh-requires c κs = range _ _ _ _ _ _ (put (c .before .before .before .before .before .before))
 
 returns : tie.Need-returns
 returns c =
@@ -71,10 +61,8 @@ same-length-2 c = search needs
 returns-3 : tie.Need-returns-3
 returns-3 c =
     let r = c .before .before in
-    let f = r .before .before .before in
-    let t = f .before .before .before .before in
-    rounds-behind _ _ _ _ _ _ (put (t .before .before .before .before)) (t .to .given .0 .0) (t .to .given .1) (callAnswer (f .fresh .result .answer)) (f .fresh .result .window) (f .fresh .ensures)
-    (lineOf (r .decode-rounds .result .ending)) (r .decode-rounds .result .window) (r .decode-rounds .result .at) (r .decode-rounds .result .to) (r .decode-rounds .last .1 .1 .1 .0) (r .decode-rounds .ensures)
+    let t = r .before .before .before in
+    rounds-behind _ _ _ _ _ _ (put (t .before .before .before .before)) (t .to .given .0 .0) (t .to .given .1) (lineOf (r .decode-fresh .result .ending)) (r .decode-fresh .result .at) (r .decode-fresh .result .to) _ (r .decode-fresh .ensures)
 
 pub decode-spec : {M : Type 1} → statement M
 decode-spec =
@@ -86,10 +74,7 @@ decode-spec =
     write-header-requires
     enum-known-f-2
     enum-known-to
-    cast-fresh
-    cast-fresh-2
-    fresh-requires
-    decode-rounds-requires
+    decode-fresh-requires
     returns
     same-length
     returns-2

@@ -1,2 +1,0 @@
-pub mod Gains
-pub mod Arrivals

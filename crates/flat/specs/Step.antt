@@ -1,0 +1,52 @@
+-- A MERGING STEP OVER A WORK LIST, by entries: what it leaves, and what the next list must name. Assumes nothing.
+use Prim.Native.Nat.{ℕ, zero, suc, _+_, _<_}
+use mathlib.Core.Path.{_≡_}
+use mathlib.Core.Bool.{Bool, true, false, _&&_, _||_}
+use mathlib.Core.List.{List}
+use lib.Dec.{eqb}
+use lib.ListN.{getD}
+use Rattle.shape.specs.Choice.{if}
+use Rattle.window.specs.Lists.{any}
+use Rattle.flat.specs.Entries.{State, cell, within, overBy}
+use Rattle.flat.specs.Plan.{Plan}
+use Rattle.flat.specs.Rule.{floodOf, activeAfter, sender, defectAfter, unrootedAfter, busyAt, stirs, correctionAfter}
+
+-- the entry is one of the first c of a list
+unfoldable pub named : (ℕ → ℕ) → ℕ → ℕ → Bool
+named list zero x = false
+named list (suc c) x = named list c x || eqb (list c) x
+
+-- a list that stands in an array from an offset on
+abbrev pub listAt : List ℕ → ℕ → ℕ → ℕ
+listAt lists from i = getD lists (from + i) 0
+
+-- every entry of the list is a node's
+abbrev pub Places : ℕ → ℕ → (ℕ → ℕ) → Type 0
+Places n count list = (i : ℕ) → i < count → within n (list i) ≡ true
+
+module _ (P : Plan) (st : State) (count : ℕ) (list : ℕ → ℕ) where
+  -- a listed node sends its defect along
+  abbrev pub sending : Bool
+  sending = any count (λ i. sender P st (list i))
+
+  -- a listed node is busy
+  abbrev pub busyIn : Bool
+  busyIn = any count (λ i. busyAt P st (list i))
+
+  -- every listed node is as the rule makes it, all others are as they were; bits turn only where some node sends
+  pub record Passed (n : ℕ) (st' : State) : Type 0 where
+    pub active : (x : ℕ) → within n x ≡ true → st' .active x ≡ if (named list count x) (activeAfter P st x) (st .active x)
+    pub defect : (x : ℕ) → within n x ≡ true → st' .defect x ≡ if (named list count x) (defectAfter P st sending x) (st .defect x)
+    pub unrooted : (x : ℕ) → within n x ≡ true → st' .unrooted x ≡ if (named list count x) (unrootedAfter P st x) (st .unrooted x)
+    pub pointer : (x : ℕ) → within n x ≡ true → st' .pointer x ≡ if (named list count x) (floodOf P st x .pointer) (st .pointer x)
+    pub mark : (x : ℕ) → within n x ≡ true → st' .mark x ≡ if (named list count x) (floodOf P st x .mark) (st .mark x)
+    pub growth : (e : ℕ) → st' .growth e ≡ st .growth e
+    pub correction : (kind x : ℕ) → kind < P .kinds → within n x ≡ true
+        → st' .correction (cell kind x) ≡ if (sending && named list count x) (correctionAfter P st kind x) (st .correction (cell kind x))
+
+  -- a list that names what stirs, and what lies over its open edges
+  pub record Follows (n count' : ℕ) (list' : ℕ → ℕ) : Type 0 where
+    pub places : Places n count' list'
+    pub self : (i : ℕ) → i < count → stirs P st sending (list i) ≡ true → named list' count' (list i) ≡ true
+    pub near : (i k : ℕ) → i < count → k < P .dirs → stirs P st sending (list i) ≡ true → eqb (st .growth (overBy (list i) (P .slot k))) 2 ≡ true
+        → named list' count' (overBy (list i) (P .off k)) ≡ true

@@ -1,0 +1,108 @@
+// The flat machine's arrays: what their numbers mean, and how they are read.
+ghost use mathlib.Core.Path.{_≡_};
+ghost use mathlib.Core.Bool.{_&&_};
+ghost use Prim.Native.Nat.{_+_, _-_, _≤_, _<_};
+ghost use lib.Dec.{eqb};
+ghost use Rattle.flat.specs.Codes.{nodeCode, activeOf, defectOf, unrootedOf, pointerOf, edgeCode, growthOf, correctionOf};
+ghost use Rattle.flat.specs.Entries.{overBy};
+
+// Before the nodes of a plane and behind them are margins, so that a neighbour is an entry plus a constant.
+pub const MARGIN: usize = 512;
+
+// The entries of a plane.
+pub const PLANE: usize = 4608;
+
+// The edges: a plane for each of six kinds.
+pub const PLANES: usize = 6 * PLANE;
+
+// Offsets, ways back, naming directions, the nodes' numbers, a fresh sheet's edges, and the bottom layer's edges by number.
+pub const TABLE: usize = 7680;
+
+// Two work lists and the live nodes.
+pub const LISTS: usize = 3 * PLANE;
+
+// A mark that is reset.
+pub const RESET: u16 = 65535;
+
+// The growth that stands for no edge.
+pub const NO_EDGE: u8 = 3;
+
+// The sizes of a shape: directions and kinds of its table of steps, nodes of the window and of a sheet, and the lowest number of a detector.
+pub struct Sizes {
+    pub dirs: usize,
+    pub kinds: usize,
+    pub nodes: usize,
+    pub sheet: usize,
+    pub bound: u16,
+}
+
+// What flooding leaves of a node.
+pub struct Flood {
+    pub mark: u16,
+    pub pointer: u8,
+}
+
+// The entry over a direction.
+pub fn over(x: usize, by: u16) -> usize
+    requires { ⌜ (512 ≤ x) × (x < 4608) ⌝ }
+    ensures { λ r. ⌜ r ≡ overBy x by ⌝ }
+{
+    x + by as usize - MARGIN
+}
+
+pub fn active(v: u8) -> bool
+    ensures { λ r. ⌜ r ≡ activeOf v ⌝ }
+{
+    v % 2 == 1
+}
+
+pub fn defect(v: u8) -> bool
+    ensures { λ r. ⌜ r ≡ defectOf v ⌝ }
+{
+    v / 2 % 2 == 1
+}
+
+pub fn unrooted(v: u8) -> bool
+    ensures { λ r. ⌜ r ≡ unrootedOf v ⌝ }
+{
+    v / 4 % 2 == 1
+}
+
+pub fn pointer(v: u8) -> u8
+    ensures { λ r. ⌜ r ≡ pointerOf v ⌝ }
+{
+    v / 8
+}
+
+pub fn node(active: bool, defect: bool, unrooted: bool, pointer: u8) -> u8
+    requires { ⌜ pointer < 32 ⌝ }
+    ensures { λ r. ⌜ r ≡ nodeCode active defect unrooted pointer ⌝ }
+{
+    window::bit(active) + 2 * window::bit(defect) + 4 * window::bit(unrooted) + 8 * pointer
+}
+
+pub fn growth(v: u8) -> u8
+    ensures { λ r. ⌜ r ≡ growthOf v ⌝ }
+{
+    v % 4
+}
+
+pub fn corrected(v: u8) -> bool
+    ensures { λ r. ⌜ r ≡ correctionOf v ⌝ }
+{
+    v / 4 == 1
+}
+
+pub fn edge(growth: u8, correction: bool) -> u8
+    requires { ⌜ growth < 4 ⌝ }
+    ensures { λ r. ⌜ r ≡ edgeCode growth correction ⌝ }
+{
+    growth + 4 * window::bit(correction)
+}
+
+// An edge of growth 2.
+pub fn is_open(v: u8) -> bool
+    ensures { λ r. ⌜ r ≡ eqb (growthOf v) 2 ⌝ }
+{
+    v % 4 == 2
+}

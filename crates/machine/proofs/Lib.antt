@@ -1,0 +1,3 @@
+pub mod Packed
+pub mod Stages
+pub mod Begun

@@ -1,3 +1,0 @@
-pub mod Turn
-pub mod Peace
-pub mod Calm

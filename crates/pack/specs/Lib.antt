@@ -1,0 +1,2 @@
+-- what the loops over kinds leave of a window's edges
+pub mod Packed

@@ -1,0 +1,3 @@
+-- what a round leaves of nodes, marks and edges
+pub mod Falls
+pub mod LawsFalls

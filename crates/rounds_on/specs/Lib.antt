@@ -1,0 +1,4 @@
+pub mod Laid
+pub mod Measured
+pub mod Passing
+pub mod Rounds

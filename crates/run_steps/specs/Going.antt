@@ -1,0 +1,203 @@
+-- A RUN OF MERGING STEPS on the machine's arrays: what it asks of them, and what it leaves, for every window that they show. Assumes nothing.
+use Prim.Native.Nat.{ℕ, _+_, _-_, _≤_, _<_}
+use native.Mathlib.Omega.{arith}
+use mathlib.Core.Path.{_≡_, refl, sym, _∙_, ap, subst}
+use mathlib.Core.Bool.{Bool, true, false}
+use mathlib.Core.List.{List}
+use mathlib.Core.Logic.{_⊎_, inl, inr, ⊎-elim}
+use lib.Dec.{eqb}
+use lib.ListN.{length, getD}
+use Rattle.refusal.specs.Laws.{undone}
+use Rattle.shape.specs.Sizes.{nodesOf}
+use Rattle.shape.specs.declared.Shape.{Shape}
+use Rattle.steps.specs.Steps.{base}
+use Rattle.steps.specs.Models.{suited-base}
+use Rattle.window.specs.Run.{stepsFrom}
+use Rattle.window.specs.Window.{size}
+use Rattle.window.specs.declared.Window.{Window}
+use Rattle.flat.specs.Codes.{growthOf}
+use Rattle.flat.specs.Entries.{State, within, overBy, stateOf, Long}
+use Rattle.flat.specs.Plan.{Plan}
+use Rattle.flat.specs.Step.{listAt, Places, busyIn, Passed, Follows}
+use Rattle.queue.specs.Queue.{Queue, Empty, Inside}
+use Rattle.node_step.specs.Words.{stirIn}
+use Rattle.next_list.specs.Next.{Next}
+use Rattle.next_list.specs.LawsNext.{follows}
+use Rattle.merge_step.specs.Pass.{Sized, Leaves}
+use Rattle.shows.specs.Next.{Live}
+use Rattle.shows.specs.Pass.{Going}
+use Rattle.shows.specs.Run.{Underway, Over, run-starts, run-spent, run-rests, run-goes}
+use Rattle.run_steps.specs.Inside.{open-inside}
+
+-- some window of n nodes is shown, with a list that covers
+abbrev pub Shown : Plan → ℕ → State → Bool → ℕ → (ℕ → ℕ) → Type 0
+Shown P n st rides count list = (w : Window) × (size w ≡ n) × Going base P w st rides count list
+
+-- whatever window was shown with what is live in it
+abbrev pub Each : Plan → ℕ → State → Bool → ℕ → (ℕ → ℕ) → ((ℕ → Bool) → Window → Type 0) → Type 0
+Each P n st rides count list A = (w : Window) → size w ≡ n → Going base P w st rides count list → (listed : ℕ → Bool) → (rides ≡ true → Live base w listed) → A listed w
+
+-- THE RUN IS OVER
+abbrev pub Ended : Plan → ℕ → ℕ → State → Bool → ℕ → (ℕ → ℕ) → Bool → ℕ → State → Type 0
+Ended P n budget st rides count list rest made st' = Each P n st rides count list (λ listed w. Over base P budget (stepsFrom base budget 0 w) rides listed w rest made st')
+
+-- a work list stands at 0 or at 4,608, and the next one at the other
+abbrev pub Half : ℕ → Type 0
+Half from = (from ≡ 0) ⊎ (from ≡ 4608)
+
+-- IT GOES ON: so many steps were made; the list of live nodes is as it was
+pub record Middle (P : Plan) (n budget : ℕ) (st₀ : State) (rides : Bool) (count₀ : ℕ) (list₀ : ℕ → ℕ) (old : List ℕ)
+    (made from count : ℕ) (nodes marks edges words lists : List ℕ) (queued : List Bool) : Type 0 where
+  pub sized : Sized nodes marks edges words
+  pub half : Half from
+  pub queue : Queue from count lists queued
+  pub kept : (i : ℕ) → 9216 ≤ i → getD lists i 0 ≡ getD old i 0
+  pub each : Each P n st₀ rides count₀ list₀ (λ listed w. Underway base P budget (stepsFrom base budget 0 w) rides listed w made (stateOf nodes marks edges) count (listAt lists from))
+
+module _ (P : Plan) (n budget : ℕ) (rides : Bool) where
+  abbrev nodesIn : Shape → ℕ
+  nodesIn sh = nodesOf (sh .height) (sh .distance)
+
+  -- some window is shown between two steps, too
+  pub still-shown : (st₀ : State) (count₀ : ℕ) (list₀ : ℕ → ℕ) → Shown P n st₀ rides count₀ list₀ → (made count : ℕ) (st : State) (list : ℕ → ℕ)
+      → Each P n st₀ rides count₀ list₀ (λ listed w. Underway base P budget (stepsFrom base budget 0 w) rides listed w made st count list) → Shown P n st rides count list
+  still-shown st₀ count₀ list₀ s made count st list u =
+      let v = u (s .0) (s .1) (s .2) (λ g. true) (λ t g l f. absurd (undone f)) in
+      (v .window, ap nodesIn (v .shape) ∙ s .1, v .going)
+
+  module _ (st : State) (count : ℕ) (list : ℕ → ℕ) (s : Shown P n st rides count list) where
+    pub shown-places : Places n count list
+    shown-places = subst (λ (m : ℕ). Places m count list) (s .1) (s .2 .places)
+
+    -- also by another account of the same growth
+    pub shown-inside : (growth : ℕ → ℕ) → ((e : ℕ) → growth e ≡ st .growth e) → (dirs : ℕ) → P .dirs ≡ dirs → (i : ℕ) → i < count → Inside P growth (list i) dirs n
+    shown-inside growth e dirs d i l k m o =
+        let G = s .2 in
+        let m' : k < P .dirs = omega arith in
+        let r = open-inside base suited-base P (s .0) st (G .kept) (G .planned) (G .shows) (list i) (G .places i l) k m' (ap (λ (v : ℕ). eqb v 2) (sym (e (overBy (list i) (P .slot k)))) ∙ o) in
+        subst (λ (m : ℕ). within m (overBy (list i) (P .off k)) ≡ true) (s .1) r
+
+-- a run stopped, with its last list on the queue
+pub record Stopped (P : Plan) (n budget : ℕ) (st₀ : State) (rides : Bool) (count₀ : ℕ) (list₀ : ℕ → ℕ) (old : List ℕ) (rest : Bool) (made from count : ℕ)
+    (nodes marks edges words lists : List ℕ) (queued : List Bool) : Type 0 where
+  pub sized : Sized nodes marks edges words
+  pub half : Half from
+  pub queue : Queue from count lists queued
+  pub places : Places n count (listAt lists from)
+  pub kept : (i : ℕ) → 9216 ≤ i → getD lists i 0 ≡ getD old i 0
+  pub ended : Ended P n budget st₀ rides count₀ list₀ rest made (stateOf nodes marks edges)
+
+-- and with none on it
+pub record Finished (P : Plan) (n budget : ℕ) (st₀ : State) (rides : Bool) (count₀ : ℕ) (list₀ : ℕ → ℕ) (old : List ℕ) (rest : Bool) (made : ℕ)
+    (nodes marks edges words lists : List ℕ) (queued : List Bool) : Type 0 where
+  pub long : Long nodes marks edges
+  pub words-long : length words ≡ 4608
+  pub lists-long : length lists ≡ 13824
+  pub empty : Empty queued
+  pub kept : (i : ℕ) → 9216 ≤ i → getD lists i 0 ≡ getD old i 0
+  pub ended : Ended P n budget st₀ rides count₀ list₀ rest made (stateOf nodes marks edges)
+
+-- HALVES
+
+pub half-low : (from : ℕ) → Half from → from ≤ 4608
+half-low from h = ⊎-elim (λ e. omega arith) (λ e. omega arith) h
+
+pub half-other : (from : ℕ) → Half from → Half (4608 - from)
+half-other from h = ⊎-elim (λ e. inr (omega arith)) (λ e. inl (omega arith)) h
+
+pub half-apart : (from : ℕ) → Half from → (from + 4608 ≤ 4608 - from) ⊎ (4608 - from + 4608 ≤ from)
+half-apart from h = ⊎-elim (λ e. inl (omega arith)) (λ e. inr (omega arith)) h
+
+-- THE LOOP
+
+module _ (P : Plan) (n budget : ℕ) (rides : Bool) (st₀ : State) (count₀ : ℕ) (list₀ : ℕ → ℕ) (old : List ℕ) where
+  pub starts : (nodes marks edges words : List ℕ) (queued : List Bool) → st₀ ≡ stateOf nodes marks edges → list₀ ≡ listAt old 0 → Sized nodes marks edges words → Queue 0 count₀ old queued
+      → Middle P n budget st₀ rides count₀ list₀ old 0 0 count₀ nodes marks edges words old queued
+  starts nodes marks edges words queued e f s q =
+      record {
+        sized = s;
+        half = inl refl;
+        queue = q;
+        kept = λ i l. refl;
+        each = λ w a G listed live. rw (← e, ← f) (run-starts base P budget (stepsFrom base budget 0 w) rides listed w st₀ count₀ list₀ G live refl);
+      }
+
+  module _ (s : Shown P n st₀ rides count₀ list₀) (made from count : ℕ) (nodes marks edges words lists : List ℕ) (queued : List Bool)
+      (M : Middle P n budget st₀ rides count₀ list₀ old made from count nodes marks edges words lists queued) where
+    abbrev st : State
+    st = stateOf nodes marks edges
+
+    abbrev list : ℕ → ℕ
+    list = listAt lists from
+
+    pub now-shown : Shown P n (stateOf nodes marks edges) rides count (listAt lists from)
+    now-shown = still-shown P n budget rides st₀ count₀ list₀ s made count st list (M .each)
+
+    pub now-places : Places n count (listAt lists from)
+    now-places = shown-places P n budget rides st count list now-shown
+
+    -- the budget is spent
+    pub over-spent : budget ≤ made → Stopped P n budget st₀ rides count₀ list₀ old false made from count nodes marks edges words lists queued
+    over-spent l =
+        record {
+          sized = M .sized;
+          half = M .half;
+          queue = M .queue;
+          places = now-places;
+          kept = M .kept;
+          ended = λ w a G listed live. run-spent base P budget (stepsFrom base budget 0 w) rides listed w made st count list (M .each w a G listed live) l;
+        }
+
+    -- ONE STEP
+    module _ (l : made < budget) (busy : Bool) (nodes' marks' edges' words' : List ℕ) (L : Leaves P st count list n busy nodes' marks' edges' words') where
+      abbrev st' : State
+      st' = stateOf nodes' marks' edges'
+
+      passed-in : (w : Window) → size w ≡ n → Passed P st count list (size w) st'
+      passed-in w a = subst (λ (m : ℕ). Passed P st count list m st') (sym a) (L .passed)
+
+      pub over-rests : busy ≡ false → Stopped P n budget st₀ rides count₀ list₀ old true (made + 1) from count nodes' marks' edges' words' lists queued
+      over-rests b =
+          record {
+            sized = L .sized;
+            half = M .half;
+            queue = M .queue;
+            places = now-places;
+            kept = M .kept;
+            ended = λ w a G listed live.
+                run-rests base P budget (stepsFrom base budget 0 w) rides listed w suited-base made st count list (M .each w a G listed live) l st' (passed-in w a) (sym (L .is-busy) ∙ b);
+          }
+
+      pub goes-same : busy ≡ true → rides ≡ false → Middle P n budget st₀ rides count₀ list₀ old (made + 1) from count nodes' marks' edges' words' lists queued
+      goes-same b f =
+          record {
+            sized = L .sized;
+            half = M .half;
+            queue = M .queue;
+            kept = M .kept;
+            each = λ w a G listed live.
+                run-goes base P budget (stepsFrom base budget 0 w) rides listed w suited-base made st count list (M .each w a G listed live) l st' (passed-in w a) count list
+                (λ t. absurd (undone (sym t ∙ f))) (λ t. (refl, λ i h. refl)) (sym (L .is-busy) ∙ b);
+          }
+
+      -- what the next list asks for
+      pub now-inside : (dirs : ℕ) → P .dirs ≡ dirs → (i : ℕ) → i < count → Inside P (λ e. growthOf (getD edges' e 0)) (listAt lists from i) dirs n
+      now-inside dirs d i h = shown-inside P n budget rides st count list now-shown (λ e. growthOf (getD edges' e 0)) (λ e. L .passed .growth e) dirs d i h
+
+      pub goes-on : busy ≡ true → rides ≡ true → (to more : ℕ) (lists' : List ℕ) (queued' : List Bool) → to ≡ 4608 - from
+          → Next P (λ e. growthOf (getD edges' e 0)) n list (λ i. stirIn (getD words' i 0)) count to more lists lists' queued'
+          → Middle P n budget st₀ rides count₀ list₀ old (made + 1) to more nodes' marks' edges' words' lists' queued'
+      goes-on b t to more lists' queued' e N =
+          let h = half-low from (M .half) in
+          record {
+            sized = L .sized;
+            half = subst Half (sym e) (half-other from (M .half));
+            queue = N .queue;
+            kept = λ i j. N .extends .behind i (omega arith) ∙ M .kept i j;
+            each = λ w a G listed live.
+                run-goes base P budget (stepsFrom base budget 0 w) rides listed w suited-base made st count list (M .each w a G listed live) l st' (passed-in w a) more (listAt lists' to)
+                (λ r.
+                subst (λ (m : ℕ). Follows P st count list m more (listAt lists' to)) (sym a)
+                (follows P (λ e. growthOf (getD edges' e 0)) n list (λ i. stirIn (getD words' i 0)) to lists st count more lists' queued' N (λ e. L .passed .growth e) (L .stirring)))
+                (λ f. absurd (undone (sym t ∙ f))) (sym (L .is-busy) ∙ b);
+          }

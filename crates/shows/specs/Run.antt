@@ -1,0 +1,156 @@
+-- A RUN OVER LISTS, as its loop goes: while it is under way some window is shown whose steps are still to be made, and when it is over that
+-- window is the run's. Assumes nothing.
+use Prim.Native.Nat.{ℕ, _+_, _-_, _≤_, _<_}
+use native.Mathlib.Omega.{arith}
+use mathlib.Core.Path.{_≡_, refl, sym, _∙_, ap, subst}
+use mathlib.Core.Bool.{Bool, true, false}
+use mathlib.Core.List.{List}
+use Rattle.refusal.specs.Laws.{undone}
+use Rattle.shape.specs.Choice.{if-true, if-false}
+use Rattle.shape.specs.Sizes.{nodesOf}
+use Rattle.shape.specs.declared.Shape.{Shape}
+use Rattle.steps.specs.Steps.{Table}
+use Rattle.steps.specs.Suited.{Suited}
+use Rattle.window.specs.Grow.{grown}
+use Rattle.window.specs.Measured.{measuring}
+use Rattle.window.specs.Round.{rounded}
+use Rattle.window.specs.LawsRun.{rests, goes-on, none-left}
+use Rattle.window.specs.Merging.{merged}
+use Rattle.window.specs.Run.{stepsFrom, ran}
+use Rattle.window.specs.Window.{isRest, isToGrow, size}
+use Rattle.window.specs.declared.Ran.{Ran}
+use Rattle.window.specs.declared.Window.{Window}
+use Rattle.closure.specs.Closure.{Kept}
+use Rattle.flat.specs.Entries.{State, entry}
+use Rattle.flat.specs.Plan.{Plan}
+use Rattle.flat.specs.Step.{named, Places, busyIn, Passed, Follows}
+use Rattle.shows.specs.Planned.{Planned}
+use Rattle.shows.specs.Shows.{Shows}
+use Rattle.shows.specs.Riding.{Riding}
+use Rattle.shows.specs.Next.{Live}
+use Rattle.shows.specs.Pass.{Going, pass-rest, pass-on, pass-shows, pass-going, pass-live, pass-riding, pass-kept}
+use Rattle.shows.specs.Turn.{Resting, grown-raw}
+
+-- what a run is, by its stage
+pub ran-grown : (T : Table) (budget : ℕ) (w : Window) → isToGrow (w .stage) ≡ true → ran T budget w ≡ stepsFrom T budget 0 (grown T w)
+unfolding ran
+ran-grown T budget w e = ap (stepsFrom T budget 0) (if-true (isToGrow (w .stage)) (grown T w) w e)
+
+pub ran-merging : (T : Table) (budget : ℕ) (w : Window) → isToGrow (w .stage) ≡ false → ran T budget w ≡ stepsFrom T budget 0 w
+unfolding ran
+ran-merging T budget w e = ap (stepsFrom T budget 0) (if-false (isToGrow (w .stage)) (grown T w) w e)
+
+-- after a round, and after a round of raw measurements
+pub ran-round : (T : Table) (budget : ℕ) (w : Window) (defects : List ℕ) → ran T budget (rounded T w defects) ≡ stepsFrom T budget 0 (grown T (rounded T w defects))
+unfolding rounded
+ran-round T budget w defects = ran-grown T budget (rounded T w defects) refl
+
+pub ran-raw : (T : Table) (S : Suited T) (budget : ℕ) (w : Window) (defects bytes : List ℕ)
+    → ran T budget (measuring (rounded T w defects) bytes) ≡ stepsFrom T budget 0 (measuring (grown T (rounded T w defects)) bytes)
+unfolding rounded measuring
+ran-raw T S budget w defects bytes = ran-grown T budget (measuring (rounded T w defects) bytes) refl ∙ ap (stepsFrom T budget 0) (grown-raw T S (rounded T w defects) bytes)
+
+module _ (T : Table) (P : Plan) (budget : ℕ) (whole : Ran) (rides : Bool) (listed : ℕ → Bool) (w₀ : Window) where
+  -- so many steps were made
+  pub record Underway (made : ℕ) (st : State) (count : ℕ) (list : ℕ → ℕ) : Type 0 where
+    pub window : Window
+    pub shape : window .shape ≡ w₀ .shape
+    pub next : window .next ≡ w₀ .next
+    pub measured : window .measured ≡ w₀ .measured
+    pub going : Going T P window st rides count list
+    pub live : rides ≡ true → Live T window listed
+    pub equals : stepsFrom T (budget - made) made window ≡ whole
+
+  pub record Over (rest : Bool) (total : ℕ) (st : State) : Type 0 where
+    pub window : Window
+    pub shape : window .shape ≡ w₀ .shape
+    pub next : window .next ≡ w₀ .next
+    pub measured : window .measured ≡ w₀ .measured
+    pub equals : whole ≡ record { window = window; rest = rest; count = total }
+    pub kept : Kept T window
+    pub shows : Shows T window st
+    pub still : rest ≡ true → isRest (window .stage) ≡ true
+    pub riding : rides ≡ true → Riding T window
+    pub live : rides ≡ true → Live T window listed
+
+  pub run-starts : (st : State) (count : ℕ) (list : ℕ → ℕ) → Going T P w₀ st rides count list → (rides ≡ true → Live T w₀ listed) → stepsFrom T budget 0 w₀ ≡ whole → Underway 0 st count list
+  run-starts st count list G live e =
+      let z : budget - 0 ≡ budget = omega arith in
+      record { window = w₀; shape = refl; next = refl; measured = refl; going = G; live = live; equals = ap (λ (n : ℕ). stepsFrom T n 0 w₀) z ∙ e }
+
+  -- the budget is spent
+  pub run-spent : (made : ℕ) (st : State) (count : ℕ) (list : ℕ → ℕ) → Underway made st count list → budget ≤ made → Over false made st
+  run-spent made st count list U l =
+      let z : budget - made ≡ 0 = omega arith in
+      record {
+        window = U .window;
+        shape = U .shape;
+        next = U .next;
+        measured = U .measured;
+        equals = sym (U .equals) ∙ ap (λ (n : ℕ). stepsFrom T n made (U .window)) z ∙ none-left T made (U .window);
+        kept = U .going .kept;
+        shows = U .going .shows;
+        still = λ e. absurd (undone (sym e));
+        riding = U .going .riding;
+        live = U .live;
+      }
+
+  -- ONE PASS
+  module _ (S : Suited T) (made : ℕ) (st : State) (count : ℕ) (list : ℕ → ℕ) (U : Underway made st count list) (l : made < budget) (st' : State) (A : Passed P st count list (size w₀) st') where
+    abbrev w : Window
+    w = U .window
+
+    abbrev nodes : Shape → ℕ
+    nodes sh = nodesOf (sh .height) (sh .distance)
+
+    passed : Passed P st count list (size w) st'
+    passed = subst (λ (sh : Shape). Passed P st count list (nodes sh) st') (sym (U .shape)) A
+
+    -- no listed node was busy
+    pub run-rests : busyIn P st count list ≡ false → Over true (made + 1) st'
+    unfolding merged
+    run-rests b =
+        let r = pass-rest T S P w st rides count list (U .going) b in
+        record {
+          window = merged T w;
+          shape = U .shape;
+          next = U .next;
+          measured = U .measured;
+          equals = sym (U .equals) ∙ rests T made w budget l r;
+          kept = pass-kept T S P w st rides count list (U .going);
+          shows = pass-shows T S P w st rides count list (U .going) st' passed;
+          still = λ e. r;
+          riding = pass-riding T S P w st rides count list (U .going);
+          live = λ t. pass-live T S P w st rides count list (U .going) t listed (U .live t);
+        }
+
+    -- one was, and the next list follows, or is the same where pointers do not ride
+    pub run-goes : (count' : ℕ) (list' : ℕ → ℕ) → (rides ≡ true → Follows P st count list (size w₀) count' list') → (rides ≡ false → (count' ≡ count) × ((i : ℕ) → i < count → list' i ≡ list i))
+        → busyIn P st count list ≡ true → Underway (made + 1) st' count' list'
+    unfolding merged
+    run-goes count' list' follows same b =
+        record {
+          window = merged T w;
+          shape = U .shape;
+          next = U .next;
+          measured = U .measured;
+          going = pass-going T S P w st rides count list (U .going) st' passed count' list'
+              (λ t. subst (λ (sh : Shape). Follows P st count list (nodes sh) count' list') (sym (U .shape)) (follows t)) same b;
+          live = λ t. pass-live T S P w st rides count list (U .going) t listed (U .live t);
+          equals = sym (goes-on T made w budget l (pass-on T S P w st rides count list (U .going) b)) ∙ U .equals;
+        }
+
+-- AT REST AGAIN, with the live nodes of the turn
+pub over-resting : (T : Table) (P : Plan) (budget : ℕ) (whole : Ran) (w₀ : Window) (lively : ℕ) (live : ℕ → ℕ) (total : ℕ) (st : State)
+    → (E : Over T P budget whole true (λ g. named live lively (entry g)) w₀ true total st) → Planned T (w₀ .shape .height) (w₀ .shape .distance) P → Places (size w₀) lively live
+    → Resting T P (E .window) st lively live
+over-resting T P budget whole w₀ lively live total st E N places =
+    record {
+      kept = E .kept;
+      rest = E .still refl;
+      planned = subst (λ (sh : Shape). Planned T (sh .height) (sh .distance) P) (sym (E .shape)) N;
+      shows = E .shows;
+      riding = E .riding refl;
+      places = subst (λ (sh : Shape). Places (nodesOf (sh .height) (sh .distance)) lively live) (sym (E .shape)) places;
+      live = E .live refl;
+    }

@@ -1,0 +1,3 @@
+-- what moves down, and how
+pub mod Sunk
+pub mod LawsSunk

@@ -1,2 +1,0 @@
-pub mod Stirred
-pub mod Marks

@@ -1,0 +1,3 @@
+-- the new defects, and how their loop proves them
+pub mod Received
+pub mod LawsReceived
