@@ -31,7 +31,7 @@ pub struct Rounds {
     pub next: u32,
     pub at: usize,
     pub to: usize,
-    pub second: bool,
+    pub other: bool,
 }
 
 // Makes records from an offset on, and writes them from an offset on: one from the first set into the other, and one back.
@@ -62,7 +62,7 @@ pub fn rounds_on(
     requires { ⌜ Scratch (now lists) (now queued) (now words) ⌝ }
     requires { ⌜ held .live ≤ 4608 ⌝ }
     requires { ⌜ HeldAt (planOf z (now table)) shape (held .next) (stateOf (now nodes) (now marks) (now edges)) (held .rides) (held .live) (listAt (now lists) 9216) ⌝ }
-    ensures { λ r. ⌜ RoundsOn (planOf z (now (table .entry))) shape (held .next) (stateOf (now (nodes .entry)) (now (marks .entry)) (now (edges .entry))) (held .rides) (held .live) (listAt (now (lists .entry)) 9216) (now (src .entry)) at (now (out .entry)) to (lineOf (r .ending)) (r .at) (r .to) (now (out .exit)) (r .next) (if (r .second) (stateOf (now («other_nodes» .exit)) (now («other_marks» .exit)) (now («other_edges» .exit))) (stateOf (now (nodes .exit)) (now (marks .exit)) (now (edges .exit)))) ⌝ }
+    ensures { λ r. ⌜ RoundsOn (planOf z (now (table .entry))) shape (held .next) (stateOf (now (nodes .entry)) (now (marks .entry)) (now (edges .entry))) (held .rides) (held .live) (listAt (now (lists .entry)) 9216) (now (src .entry)) at (now (out .entry)) to (lineOf (r .ending)) (r .at) (r .to) (now (out .exit)) (r .next) (if (r .other) (stateOf (now («other_nodes» .exit)) (now («other_marks» .exit)) (now («other_edges» .exit))) (stateOf (now (nodes .exit)) (now (marks .exit)) (now (edges .exit)))) ⌝ }
 {
     let mut here = held;
     let mut i = at;
@@ -96,7 +96,7 @@ pub fn rounds_on(
                     next: here.next,
                     at: i,
                     to: j,
-                    second: false,
+                    other: false,
                 };
             }
             Record::Written(next, behind) => {
@@ -127,7 +127,7 @@ pub fn rounds_on(
                             next: there.next,
                             at: next,
                             to: behind,
-                            second: true,
+                            other: true,
                         };
                     }
                     Record::Written(further, end) => {

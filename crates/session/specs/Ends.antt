@@ -35,9 +35,9 @@ module _ (w : Window) (s : List ℕ) (at : ℕ) (old : List ℕ) (from : ℕ) (l
       let p : windowOf base (w .shape) Rest next (w .measured) st ≡ u = rw (← R .shape, ← R .next-is, ← R .measured, ← rest-is (u .stage) (R .rest)) (window-shown base u (R .kept) st (R .shows)) in
       ap (λ (x : Window). roundsReturned line x i j new) (e ∙ p) ∙ R .leaves
 
-  module _ (second : Bool) (other first : State) (R : Reached w s at old from line i j new next (if second other first)) (v : Window) where
-    pub packed-second : second ≡ true → v ≡ windowOf base (w .shape) Rest next (w .measured) other → roundsReturned line v i j new ≡ roundsLeave base s w at old from
-    packed-second t = packed other (subst (λ (st : State). Reached w s at old from line i j new next st) (if-true second other first t) R) v
+  module _ (in-other : Bool) (other first : State) (R : Reached w s at old from line i j new next (if in-other other first)) (v : Window) where
+    pub packed-other : in-other ≡ true → v ≡ windowOf base (w .shape) Rest next (w .measured) other → roundsReturned line v i j new ≡ roundsLeave base s w at old from
+    packed-other t = packed other (subst (λ (st : State). Reached w s at old from line i j new next st) (if-true in-other other first t) R) v
 
-    pub packed-first : second ≡ false → v ≡ windowOf base (w .shape) Rest next (w .measured) first → roundsReturned line v i j new ≡ roundsLeave base s w at old from
-    packed-first t = packed first (subst (λ (st : State). Reached w s at old from line i j new next st) (if-false second other first t) R) v
+    pub packed-first : in-other ≡ false → v ≡ windowOf base (w .shape) Rest next (w .measured) first → roundsReturned line v i j new ≡ roundsLeave base s w at old from
+    packed-first t = packed first (subst (λ (st : State). Reached w s at old from line i j new next st) (if-false in-other other first t) R) v

@@ -117,7 +117,7 @@ fn decode_resting(w: Window, src: &[u8], at: usize, out: &mut [u8], to: usize) -
     );
     let ending = r.ending;
     let measured = w.measured;
-    if r.second {
+    if r.other {
         let window = pack::pack(
             shape,
             Stage::Rest,

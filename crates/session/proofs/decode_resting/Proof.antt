@@ -12,7 +12,7 @@ use Rattle.window.specs.Fresh.{slots-base}
 use Rattle.closure.specs.Closure.{Kept}
 use Rattle.closure.specs.Facts.{facts}
 use Rattle.starting.specs.Starts.{safe-made, nodes-long, long-made, scratch-made, none-made, lists-long, resting-starts}
-use Rattle.session.specs.Ends.{packed-second, packed-first}
+use Rattle.session.specs.Ends.{packed-other, packed-first}
 use Rattle.session.proofs.decode_resting.Statement.{statement}
 use Rattle.session.proofs.decode_resting.Tie as tie
 
@@ -94,7 +94,7 @@ returns c =
     let z = f .before .before in
     let a = z .before .before .before .before in
     let w = a .args .w in
-    packed-second w _ _ _ _ _ _ _ _ _ _ _ _ (r .rounds-on .ensures w refl refl (resting-starts w (kept a) (a .pre .1) _ (z .sizes .ensures) _ (f .fill .ensures) _ _ _ (u .unpack .ensures) _ (t .rides .ensures) _ (l .all-live .ensures))) _ (c .before .before .before .before .if1 .taken) (c .pack .ensures)
+    packed-other w _ _ _ _ _ _ _ _ _ _ _ _ (r .rounds-on .ensures w refl refl (resting-starts w (kept a) (a .pre .1) _ (z .sizes .ensures) _ (f .fill .ensures) _ _ _ (u .unpack .ensures) _ (t .rides .ensures) _ (l .all-live .ensures))) _ (c .before .before .before .before .if1 .taken) (c .pack .ensures)
 
 pack-requires-2 : tie.Need-pack-requires-2
 pack-requires-2 c κs = search needs
