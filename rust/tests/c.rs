@@ -1,10 +1,11 @@
 //! The header for C: what it declares, the programs that include it, and the stack that it says suffices.
 
+use baizeridge_tests::cases::shapes;
 use baizeridge_tests::decoding::DECODED;
 use baizeridge_tests::noise::{stream, Noise};
 use baizeridge_tests::random::Random;
 use baizeridge_tests::repository::{root, text};
-use baizeridge_tests::streams::{Done, Shape, Stop, LARGEST};
+use baizeridge_tests::streams::{Done, Stop, LARGEST};
 use baizeridge_tests::{decoder, proved};
 use std::collections::BTreeSet;
 use std::path::Path;
@@ -78,13 +79,12 @@ fn with_stack<R: Send + 'static>(name: &str, call: impl FnOnce() -> R + Send + '
     thread.expect("a thread can be started").join().expect("the call returns")
 }
 
-/// The smallest, a middle, the largest and the longest shapes, with noise that fills the window.
+/// Every shape, with noise that fills the window, until rounds that were sent have left it.
 #[test]
 fn the_stack_suffices_to_decode() {
-    for (height, distance) in [(1, 2), (3, 3), (15, 15), (15, 2), (1, 15)] {
-        let shape = Shape::new(height, distance).expect("a shape in range");
+    for (_, _, shape) in shapes() {
         for chance in [10_000, 100_000, 500_000] {
-            let input = stream(shape, 40, Noise::Defects(chance), &mut Random::new(0x7374_6163, 0));
+            let input = stream(shape, shape.sheets() + 4, Noise::Defects(chance), &mut Random::new(0x7374_6163, 0));
             let decoded = decoder::decode(&input);
             let mut out = vec![0; decoded.result.len()];
             let (answer, out) = with_stack("BAIZERIDGE_DECODE_STACK", move || (proved::decode(&input, &mut out), out));

@@ -20,7 +20,7 @@ use Rattle.trip.specs.Fits.{InRange, edgesIn}
 use Rattle.window.specs.Lists.{bit}
 use Rattle.window.specs.LawsLists.{and-not}
 use Rattle.law.specs.Law.{Receipt, Played, NothingLeft, AbsentEmpty, noReceipt, Spot, ends, sum, height, distance, sheets, last, receipt, received, committed, escaped, inWindow, standing, Detector, pending, ending, Conserved}
-use Rattle.law.specs.Layered.{layered}
+use Rattle.law_holds.specs.Layered.{layered}
 use Rattle.law.specs.Bits.{refuted}
 use Rattle.law.specs.Spots.{ends-at, window-in, not-in-window}
 use Rattle.decoding.specs.Lengths.{LongAs01}

@@ -119,7 +119,7 @@ module _ (T : Table) (s : List ℕ) (size : ℕ) where
   record-coded w at to =
       recorded-coded (size - to)
       (coded-tests (recordTests T s size w at to) (refl, (refl, (refl, (refl, tt))))
-      (coded-test (ltb at (length s)) (coded-tests (lastTest w) (refl, tt) (turn-coded T s w at)) end))
+      (coded-test (ltb at (length s)) (coded-tests (lastTest (w .next)) (refl, tt) (turn-coded T s w at)) end))
 
   -- ROUND AFTER ROUND, and the whole stream
 

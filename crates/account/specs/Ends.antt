@@ -62,10 +62,10 @@ module _ (T : Table) (s : List ℕ) (w : Window) (at : ℕ) where
 
   -- behind the end: 23, and then the round
   abbrev behind : Answer Turn
-  behind = unless (lastTest w) (turnAt T s w at)
+  behind = unless (lastTest (w .next)) (turnAt T s w at)
 
   behind-no-end : at < length s → NoEnd (unlessEnded s at behind)
-  behind-no-end l = subst NoEnd (sym (before-end s at behind l)) (tests-no-end (lastTest w) (turnAt T s w at) (turn-no-end l))
+  behind-no-end l = subst NoEnd (sym (before-end s at behind l)) (tests-no-end (lastTest (w .next)) (turnAt T s w at) (turn-no-end l))
 
   pub finished-end : (size to : ℕ) → at ≤ length s → recordAt T s size w at to ≡ stopped finished → at ≡ length s
   finished-end size to l e =

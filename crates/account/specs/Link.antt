@@ -14,8 +14,8 @@ use Rattle.window.specs.Calls.{Answered, Round, leaves, freshCall, roundCall, r
 use Rattle.window.specs.declared.Window.{Window}
 use Rattle.calls.specs.Answers.{RoundReturned, roundLeft, roundLeaves, rawLeaves, mergingLeaves, Ended, runLeaves}
 use Rattle.law.specs.Law.{Call, round, raw, grow, merging, run, Receipt, Played, receiptOf, returned, receipted, lastRawAfter, play, start, Law, Demand3}
-use Rattle.law.specs.Play.{play-append}
-use Rattle.law.specs.Theorem.{demand3-0}
+use Rattle.law_holds.specs.Play.{play-append}
+use Rattle.law_holds.specs.Theorem.{demand3-0}
 
 -- THE RECEIPT that a round call's promise gives, plain or raw: the defects received, and both buffers as the promise says that they are left;
 -- none where it is refused

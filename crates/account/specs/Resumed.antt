@@ -13,7 +13,7 @@ use Rattle.trip.specs.Streams.{allBytes}
 use Rattle.trip.specs.Fits.{Each, RoundFits, RecordFits}
 use Rattle.window.specs.declared.Window.{Window}
 use Rattle.law.specs.Law.{Call, Receipt, Played, called, play}
-use Rattle.law.specs.Play.{play-append}
+use Rattle.law_holds.specs.Play.{play-append}
 use Rattle.decoding.specs.Decoding.{Rounds, after, rounds}
 use Rattle.decoding.specs.Lengths.{LongAs01}
 use Rattle.account.specs.Account.{callsOf, receiptsOf, countOf, countsOf, stepsIn, resumedFrom}

@@ -24,7 +24,7 @@ use Rattle.window.specs.Fresh.{freshWindow}
 use Rattle.steps.specs.Suited.{Suited}
 use Rattle.steps.specs.Models.{suited-base}
 use Rattle.law.specs.Law.{Played, Law}
-use Rattle.law.specs.Theorem as theorem
+use Rattle.law_holds.specs.Theorem as theorem
 use Rattle.decoding.specs.Decoding.{finished, Rounds, rounds, Decoded, nothingWritten, behind, decoded}
 use Rattle.decoding.specs.Lengths.{LongAs01, long-base}
 use Rattle.decoding.specs.LawsDecoding.{onHeader, by-header, decoded-on}

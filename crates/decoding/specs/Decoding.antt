@@ -16,6 +16,7 @@ use Rattle.window.specs.Formed.{wellFormed}
 use Rattle.window.specs.Round.{rounded, committedEdges, escapedDefects}
 use Rattle.window.specs.Run.{ran}
 use Rattle.window.specs.Calls.{roundCall, runCall}
+use Rattle.window.specs.declared.Ran.{Ran}
 use Rattle.window.specs.declared.Window.{Window}
 
 -- how it ends: at the stream's end, with a refusal, or with a round that is spent
@@ -36,11 +37,13 @@ pub record Turn : Type 0 where
   pub result : Result
   pub rest : Bool
 
--- the same, of the bytes of a round and a window that no call refuses
+-- the same, of a window and the run that came of its round
+abbrev pub turnBy : Table → Window → Ran → Turn
+turnBy T w v = record { window = v .window; result = record { edges = committedEdges T w; escapes = escapedDefects w; steps = v .count }; rest = v .rest }
+
+-- of the bytes of a round and a window that no call refuses
 abbrev pub turnOf : Table → Window → List ℕ → Turn
-turnOf T w bytes =
-    let v = ran T budget (rounded T w bytes) in
-    record { window = v .window; result = record { edges = committedEdges T w; escapes = escapedDefects w; steps = v .count }; rest = v .rest }
+turnOf T w bytes = turnBy T w (ran T budget (rounded T w bytes))
 
 -- a record's bytes, the window after it, and the offset behind the round; or how the decoding ends
 pub data Recorded : Type 0 where
@@ -59,8 +62,12 @@ recorded room (refusedAt e o) = stopped (turnedBack (placed e o))
 recorded room (done t next) = if (t .rest) (recordWritten room (result (t .result)) (t .window) next) (stopped spent)
 
 -- 23: no round can follow the last one. It is asked behind the end, so that a stream that ends with the last round is decoded to its end
-abbrev pub lastTest : Window → List (Bool × ℕ)
-lastTest w = (ltb (w .next) maxNext, 23) ∷ []
+abbrev pub lastTest : ℕ → List (Bool × ℕ)
+lastTest next = (ltb next maxNext, 23) ∷ []
+
+-- 10, 10: the offsets in both slices
+abbrev pub offsetTests : List ℕ → ℕ → ℕ → ℕ → List (Bool × ℕ)
+offsetTests s at size to = (leb at (length s), 10) ∷ (leb to size, 10) ∷ []
 
 module _ (T : Table) (s : List ℕ) where
   -- a round is read at an offset, received and run
@@ -78,9 +85,7 @@ module _ (T : Table) (s : List ℕ) where
   recordTests size w at to =
       (wellFormed T w, 21)
       ∷ (isRest (w .stage), 22)
-      ∷ (leb at (length s), 10)
-      ∷ (leb to size, 10)
-      ∷ []
+      ∷ offsetTests s at size to
 
   -- the record of the round at an offset, for a buffer of so many bytes from an offset on: 21, 22, 10, 10, then the end, then 23, then the round
   -- with its refusals (7 to 9), and last its room (11)
@@ -89,7 +94,7 @@ module _ (T : Table) (s : List ℕ) where
       recorded (size - to)
       (unless (recordTests size w at to)
       (unlessEnded s at
-      (unless (lastTest w)
+      (unless (lastTest (w .next))
       (turnAt w at))))
 
 -- ROUND AFTER ROUND

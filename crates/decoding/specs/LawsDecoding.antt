@@ -2,34 +2,33 @@
 use Prim.Native.Nat.{ℕ, zero, suc, _+_, _-_, _≤_, _<_}
 use native.Mathlib.Numerals.{add-one}
 use native.Mathlib.Omega.{arith}
-use mathlib.Core.Path.{_≡_, refl, sym, _∙_, ap, subst}
+use mathlib.Core.Path.{_≡_, refl, sym, _∙_, ap}
 use mathlib.Core.Bool.{Bool, true, false}
 use mathlib.Core.List.{List}
-use borrow.Author.Tests.{ltb-true, lt-ltb, le-ltb, leb-true, le-leb}
+use borrow.Author.Tests.{ltb-true, lt-ltb, leb-true, le-leb}
 use lib.Dec.{ltb, leb}
 use lib.ListN.{length, replicate}
 use Rattle.refusal.specs.Answer.{Answer, done, ended, refused, refusedAt, Code, plain, placed, codeOf, byCode, turned, unless}
 use Rattle.refusal.specs.Bytes.{Bytes}
 use Rattle.refusal.specs.Done.{went, took, passes, fails}
 use Rattle.refusal.specs.Laws.{each}
-use Rattle.refusal.specs.Tests.{Passes, Turned}
+use Rattle.refusal.specs.Tests.{Passes}
 use Rattle.refusal.specs.declared.Refusal.{Refusal}
 use Rattle.list.specs.Sheet.{listAt}
 use Rattle.list.specs.Trip.{ListWrites, list-writes}
 use Rattle.shape.specs.Choice.{if, if-true, if-false}
 use Rattle.steps.specs.Steps.{Table}
 use Rattle.shape.specs.declared.Shape.{Shape}
-use Rattle.record.specs.Laws.{at-end, before-end}
+use Rattle.record.specs.Laws.{before-end}
 use Rattle.record.specs.Records.{header, headerAt, unlessEnded, roundAt, result}
 use Rattle.window.specs.Window.{maxNext}
 use Rattle.window.specs.Fresh.{freshWindow}
 use Rattle.window.specs.Calls.{roundCall, runCall}
 use Rattle.window.specs.Formed.{wellFormed}
 use Rattle.window.specs.declared.Window.{Window}
-use Rattle.steps.specs.Suited.{Suited}
-use Rattle.decoding.specs.Decoding.{Line, finished, turnedBack, spent, budget, Turn, turnOf, Recorded, wrote, stopped, recordWritten, recorded, turnAt, lastTest, recordTests, recordAt, stop, after, roundsFrom, rounds, Decoded, nothingWritten, behind, decoded}
+use Rattle.decoding.specs.Decoding.{Line, turnedBack, spent, budget, Turn, Recorded, wrote, stopped, recordWritten, recorded, turnAt, lastTest, recordTests, recordAt, stop, after, roundsFrom, rounds, Decoded, nothingWritten, behind, decoded}
 use Rattle.decoding.specs.LawsTests.{Hold, hold-pass, done-holds}
-use Rattle.decoding.specs.LawsTurn.{detectors, edges, onRan, onRound, onBytes, turn-steps, turn-done, turn-formed}
+use Rattle.decoding.specs.LawsTurn.{detectors, edges, onRan, onRound, onBytes, turn-steps}
 
 -- ONE RECORD
 
@@ -38,7 +37,7 @@ recorded-turned room f = each (λ (k : Code). recorded room (byCode k) ≡ stopp
 
 -- behind the end: 23, and then the round
 abbrev unlessLast : Table → List ℕ → Window → ℕ → Answer Turn
-unlessLast T s w at = unless (lastTest w) (turnAt T s w at)
+unlessLast T s w at = unless (lastTest (w .next)) (turnAt T s w at)
 
 -- in the rule's order
 module _ (T : Table) (s : List ℕ) (size : ℕ) (w : Window) (at to : ℕ) where
@@ -52,22 +51,13 @@ module _ (T : Table) (s : List ℕ) (size : ℕ) (w : Window) (at to : ℕ) wher
   unfolding recordAt
   record-tested = refl
 
-  pub record-turned : (f : Refusal) → Turned asked f → entry ≡ stopped (turnedBack (codeOf f))
-  record-turned f t = record-tested ∙ ap (recorded (size - to)) (t Turn (unlessEnded s at (unlessLast T s w at))) ∙ recorded-turned (size - to) f
-
   pub record-unformed : wellFormed T w ≡ false → entry ≡ stopped (turnedBack (plain 21))
   record-unformed e = record-tested ∙ ap (recorded (size - to)) (fails _ _ e)
 
   module _ (pass : Passes asked) where
-    pub record-ends : length s ≤ at → entry ≡ stopped finished
-    record-ends l = record-tested ∙ ap (recorded (size - to)) (pass Turn (unlessEnded s at (unlessLast T s w at)) ∙ at-end s at (unlessLast T s w at) l)
-
     module _ (more : at < length s) where
       record-more : entry ≡ recorded (size - to) (unlessLast T s w at)
       record-more = record-tested ∙ ap (recorded (size - to)) (pass Turn (unlessEnded s at (unlessLast T s w at)) ∙ before-end s at (unlessLast T s w at) more)
-
-      pub record-last : maxNext ≤ w .next → entry ≡ stopped (turnedBack (plain 23))
-      record-last l = record-more ∙ ap (recorded (size - to)) (fails _ _ (le-ltb (w .next) maxNext l))
 
       pub record-turn : w .next < maxNext → entry ≡ recorded (size - to) (turnAt T s w at)
       record-turn l = record-more ∙ ap (recorded (size - to)) (passes _ _ (lt-ltb (w .next) maxNext l))
@@ -152,7 +142,7 @@ module _ (T : Table) (s : List ℕ) (size : ℕ) (w : Window) (at to : ℕ) (byt
       let t = behind-tests .turn in
       let a = done-holds (asked T s size w at to) (unlessEnded s at (unlessLast T s w at)) t next (behind-tests .answer) in
       let b = took (ltb at (length s)) (unlessLast T s w at) ended t next refl (a .1) in
-      let c = done-holds (lastTest w) (turnAt T s w at) t next (b .1) in
+      let c = done-holds (lastTest (w .next)) (turnAt T s w at) t next (b .1) in
       record { tests = a .0; more = ltb-true at (length s) (b .0); early = ltb-true (w .next) maxNext (c .0 .0); turn = c .1 }
 
   pub record-written : Written (size - to) (turnAt T s w at) bytes v next
@@ -182,14 +172,6 @@ module _ (T : Table) (s : List ℕ) (size : ℕ) (w : Window) (at to : ℕ) (byt
     record-forward =
         let m = leb-true to size (record-asked .tests .1 .1 .1 .0) in
         record { forward = record-sheet .forward; inside = record-sheet .inside; room = omega (arith, record-written .fits) }
-
-    -- it leaves a well-formed window
-    pub record-formed : Suited T → wellFormed T v ≡ true
-    record-formed S =
-        let h = record-asked .tests in
-        let t = turn-done T w S (h .0) (h .1 .0) (record-asked .early) (record-round .0) (record-sheet .size) (record-sheet .bits) s at next (record-round .1) in
-        let k : record-written .turn ≡ turnOf T w (record-round .0) = cc (sym (record-written .answer) ∙ t) in
-        subst (λ (x : Window). wellFormed T x ≡ true) (ap (λ (x : Turn). x .window) (sym k) ∙ record-written .window) (turn-formed T w S (h .0) (h .1 .0) (record-round .0))
 
 -- ROUND AFTER ROUND
 

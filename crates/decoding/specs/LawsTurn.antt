@@ -23,7 +23,6 @@ use Rattle.window.specs.Calls.{Round, receiving, roundTests, roundCall, stateTe
 use Rattle.window.specs.declared.Ran.{Ran}
 use Rattle.window.specs.declared.Window.{Window}
 use Rattle.closure.specs.Round.{round}
-use Rattle.closure.specs.Run.{run}
 use Rattle.steps.specs.Suited.{Suited}
 use Rattle.decoding.specs.Decoding.{budget, Turn, turnOf, turnAt}
 use Rattle.decoding.specs.LawsTests.{hold-pass}
@@ -118,8 +117,3 @@ module _ (T : Table) (w : Window) where
     pub turn-done : (s : List ℕ) (at behind : ℕ) → roundAt s (detectors w) at ≡ done bytes behind → turnAt T s w at ≡ done (turnOf T w bytes) behind
     turn-done s at behind e =
         turn-steps s at ∙ goes-on onBytes e ∙ goes-on (onRound behind) round-accepted ∙ goes-on (onRan (receiving T w bytes) behind) round-run
-
-  module _ (S : Suited T) (formed : wellFormed T w ≡ true) (rest : isRest (w .stage) ≡ true) (bytes : List ℕ) where
-    pub turn-formed : wellFormed T (turnOf T w bytes .window) ≡ true
-    unfolding rounded
-    turn-formed = run T S budget (rounded T w bytes) (round T w bytes S formed rest) refl

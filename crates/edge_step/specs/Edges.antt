@@ -22,7 +22,7 @@ abbrev pub turnedBit : ℕ → Bool → Bool → Bool → Bool
 turnedBit g c mine theirs = if (eqb g noEdge) c (xor (xor c mine) theirs)
 
 -- an edge's number v after the pushes of its two ends
-pub record Turned (v : ℕ) (mine theirs : Bool) (r : ℕ) : Type 0 where
+pub record TurnedEdge (v : ℕ) (mine theirs : Bool) (r : ℕ) : Type 0 where
   pub low : r < 256
   pub growth : growthOf r ≡ growthOf v
   pub correction : correctionOf r ≡ turnedBit (growthOf v) (correctionOf v) mine theirs
@@ -30,11 +30,11 @@ pub record Turned (v : ℕ) (mine theirs : Bool) (r : ℕ) : Type 0 where
 -- the edge of a kind that a node names in direction k
 abbrev pub TurnedBy : List ℕ → List ℕ → List ℕ → ℕ → ℕ → ℕ → ℕ → Type 0
 TurnedBy nodes edges table kind k x r =
-    Turned (getD edges (cell kind x) 0) (sent nodes x (k + 1)) (sent nodes (overBy x (getD table k 0)) (getD table (64 + k) 0)) r
+    TurnedEdge (getD edges (cell kind x) 0) (sent nodes x (k + 1)) (sent nodes (overBy x (getD table k 0)) (getD table (64 + k) 0)) r
 
 module _ (P : Plan) (st : State) where
   -- the number of the edge of a kind that a node names
-  pub record Tells (kind x w : ℕ) : Type 0 where
+  pub record TellsEdge (kind x w : ℕ) : Type 0 where
     pub low : w < 256
     pub growth : growthOf w ≡ st .growth (cell kind x)
     pub correction : correctionOf w ≡ correctionAfter P st kind x

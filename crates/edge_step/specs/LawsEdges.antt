@@ -13,15 +13,14 @@ use Rattle.window.specs.Lists.{xor}
 use Rattle.flat.specs.Codes.{noEdge, edgeCode, growthOf, correctionOf}
 use Rattle.flat.specs.LawsCodes.{bit-most, edge-growth, edge-correction}
 use Rattle.flat.specs.Entries.{State, stateOf, plane, planes, cell, within, overBy}
-use Rattle.flat.specs.Laid.{laid, length-laid}
+use Rattle.flat.specs.Laid.{laid, length-laid, laid-seen, laid-stays}
 use Rattle.flat.specs.Plan.{Plan, planOf}
 use Rattle.flat.specs.Rule.{correctionAfter}
 use Rattle.flat.specs.Step.{named, Places}
 use Rattle.flat.specs.declared.Sizes.{Sizes}
 use Rattle.flat.specs.LawsEntries.{inside}
 use Rattle.edge_step.specs.Each.{Each}
-use Rattle.edge_step.specs.Edges.{sent, turnedBit, Turned, TurnedBy, Tells, Done, Flipped}
-use Rattle.edge_step.specs.LawsLaid.{laid-seen, laid-stays}
+use Rattle.edge_step.specs.Edges.{sent, turnedBit, TurnedEdge, TurnedBy, TellsEdge, Done, Flipped}
 
 -- the edges of a kind are named as their nodes are
 cell-same : (kind a x : ℕ) → eqb (cell kind a) (cell kind x) ≡ eqb a x
@@ -37,7 +36,7 @@ named-cell list kind (suc c) x =
     ap (λ (b : Bool). b || eqb (cell kind (list c)) (cell kind x)) (named-cell list kind c x) ∙ ap (λ (b : Bool). named list c x || b) (cell-same kind (list c) x)
 
 -- one edge, by the code's branches
-pub turned-none : (v : ℕ) (mine theirs : Bool) → v < 256 → growthOf v ≡ noEdge → Turned v mine theirs v
+pub turned-none : (v : ℕ) (mine theirs : Bool) → v < 256 → growthOf v ≡ noEdge → TurnedEdge v mine theirs v
 turned-none v mine theirs l e =
     record {
       low = l;
@@ -45,7 +44,7 @@ turned-none v mine theirs l e =
       correction = sym (if-true (eqb (growthOf v) noEdge) (correctionOf v) (xor (xor (correctionOf v) mine) theirs) (eq-eqb (growthOf v) noEdge e));
     }
 
-pub turned-edge : (v : ℕ) (mine theirs : Bool) → (growthOf v ≡ noEdge → ⊥) → Turned v mine theirs (edgeCode (growthOf v) (xor (xor (correctionOf v) mine) theirs))
+pub turned-edge : (v : ℕ) (mine theirs : Bool) → (growthOf v ≡ noEdge → ⊥) → TurnedEdge v mine theirs (edgeCode (growthOf v) (xor (xor (correctionOf v) mine) theirs))
 turned-edge v mine theirs e =
     let b = xor (xor (correctionOf v) mine) theirs in
     let l : growthOf v < 4 = omega arith in
@@ -58,7 +57,7 @@ turned-edge v mine theirs e =
 -- one edge, as the code reads it
 pub turned-tells : (z : Sizes) (nodes edges table : List ℕ) (kind x k r : ℕ) → k ≡ getD table (96 + kind) 0
     → TurnedBy nodes edges table kind k x r
-    → Tells (planOf z table) (stateOf nodes [] edges) kind x r
+    → TellsEdge (planOf z table) (stateOf nodes [] edges) kind x r
 turned-tells z nodes edges table kind x k r e t =
     record {
       low = t .low;
@@ -80,7 +79,7 @@ module _ (P : Plan) (nodes first : List ℕ) (count : ℕ) (list : ℕ → ℕ) 
 
   module _ (kind : ℕ) (edges : List ℕ) (d : Done P st count list n kind edges) where
     -- what is gathered now is what would have been gathered at first
-    tells-first : (x w : ℕ) → Tells P (stateOf nodes [] edges) kind x w → Tells P st kind x w
+    tells-first : (x w : ℕ) → TellsEdge P (stateOf nodes [] edges) kind x w → TellsEdge P st kind x w
     tells-first x w t =
         let e = cell kind x in
         let mine = sent nodes x (P .namer kind + 1) in
@@ -95,7 +94,7 @@ module _ (P : Plan) (nodes first : List ℕ) (count : ℕ) (list : ℕ → ℕ) 
         }
 
     module _ (low : n ≤ 3600) (few : kind < 6) (places : Places n count list) (words : List ℕ)
-        (told : Each (λ i. Tells P (stateOf nodes [] edges) kind (list i)) count words) where
+        (told : Each (λ i. TellsEdge P (stateOf nodes [] edges) kind (list i)) count words) where
       abbrev new : List ℕ
       new = laid (λ i. cell kind (list i)) (λ i. getD words i 0) count edges
 

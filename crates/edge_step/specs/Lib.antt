@@ -1,6 +1,5 @@
--- words that tell, and entries laid down, seen through a function
+-- words that tell
 pub mod Each
-pub mod LawsLaid
 -- what becomes of correction bits in a merging step
 pub mod Edges
 pub mod LawsEdges

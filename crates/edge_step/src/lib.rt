@@ -1,4 +1,12 @@
 // The correction bits that a merging step turns: gathered kind by kind over a work list, then laid down. A node may be listed twice.
+use flat::BACKS;
+use flat::LISTS;
+use flat::NAMERS;
+use flat::NO_EDGE;
+use flat::PLANE;
+use flat::PLANES;
+use flat::Sizes;
+use flat::TABLE;
 ghost use mathlib.Core.Path.{_≡_};
 ghost use mathlib.Core.List.{[]};
 ghost use Prim.Native.Nat.{ℕ, _+_, _≤_, _<_};
@@ -7,15 +15,15 @@ ghost use Rattle.flat.specs.Entries.{stateOf, cell};
 ghost use Rattle.flat.specs.Laid.{laid};
 ghost use Rattle.flat.specs.Plan.{planOf, Safe};
 ghost use Rattle.flat.specs.Step.{listAt, Places};
-ghost use Rattle.edge_step.specs.Edges.{Turned, TurnedBy, Flipped};
+ghost use Rattle.edge_step.specs.Edges.{TurnedEdge, TurnedBy, Flipped};
 ghost use Rattle.edge_step.specs.Each.{Each};
 
 // An edge's number after the pushes of its two ends.
 fn turned(v: u8, mine: bool, theirs: bool) -> u8
-    ensures { λ r. ⌜ Turned v mine theirs r ⌝ }
+    ensures { λ r. ⌜ TurnedEdge v mine theirs r ⌝ }
 {
     let g = flat::growth(v);
-    if g == flat::NO_EDGE {
+    if g == NO_EDGE {
         return v;
     }
     flat::edge(g, (flat::corrected(v) ^ mine) ^ theirs)
@@ -26,19 +34,19 @@ fn edge_after(
     kind: usize,
     k: usize,
     x: usize,
-    nodes: &[u8; 4608],
-    edges: &[u8; 27648],
-    table: &[u16; 7680],
+    nodes: &[u8; PLANE],
+    edges: &[u8; PLANES],
+    table: &[u16; TABLE],
 ) -> u8
     requires { ⌜ (kind < 6) × (k < 12) × (512 ≤ x) × (x < 4112) × (getD (now table) k 0 ≤ 1008) ⌝ }
     ensures { λ r. ⌜ TurnedBy (now (nodes .entry)) (now (edges .entry)) (now (table .entry)) kind k x r ⌝ }
 {
     let j = flat::over(x, table[k]);
-    let mine = node_step::pushes(nodes[x], k as u16 + 1);
+    let mine = syncing::pushes(nodes[x], k as u16 + 1);
     turned(
-        edges[kind * 4608 + x],
+        edges[kind * PLANE + x],
         mine,
-        node_step::pushes(nodes[j], table[64 + k]),
+        syncing::pushes(nodes[j], table[BACKS + k]),
     )
 }
 
@@ -48,11 +56,11 @@ fn gather_edges(
     k: usize,
     from: usize,
     count: usize,
-    nodes: &[u8; 4608],
-    edges: &[u8; 27648],
-    table: &[u16; 7680],
-    lists: &[u16; 13824],
-    words: &mut [u32; 4608],
+    nodes: &[u8; PLANE],
+    edges: &[u8; PLANES],
+    table: &[u16; TABLE],
+    lists: &[u16; LISTS],
+    words: &mut [u32; PLANE],
 )
     requires { ⌜ (kind < 6) × (k < 12) × (getD (now table) k 0 ≤ 1008) × (from + count ≤ 13824) × (count ≤ 4608) × (length (now words) ≡ 4608) ⌝ }
     requires { ⌜ ((i : ℕ) → i < count → (512 ≤ listAt (now lists) from i) × (listAt (now lists) from i < 4112)) ⌝ }
@@ -71,9 +79,9 @@ fn lay_edges(
     kind: usize,
     from: usize,
     count: usize,
-    edges: &mut [u8; 27648],
-    lists: &[u16; 13824],
-    words: &[u32; 4608],
+    edges: &mut [u8; PLANES],
+    lists: &[u16; LISTS],
+    words: &[u32; PLANE],
 )
     requires { ⌜ (kind < 6) × (from + count ≤ 13824) × (count ≤ 4608) ⌝ }
     requires { ⌜ ((i : ℕ) → i < count → (listAt (now lists) from i < 4608) × (getD (now words) i 0 < 256)) ⌝ }
@@ -82,7 +90,7 @@ fn lay_edges(
     let mut i: usize = 0;
     while i < count {
         let x = lists[from + i] as usize;
-        edges[kind * 4608 + x] = words[i] as u8;
+        edges[kind * PLANE + x] = words[i] as u8;
         i += 1;
     }
 }
@@ -90,14 +98,14 @@ fn lay_edges(
 // The correction bits of the edges that the list's nodes name, if some node sends.
 pub fn flips(
     sending: bool,
-    z: flat::Sizes,
+    z: Sizes,
     from: usize,
     count: usize,
-    nodes: &[u8; 4608],
-    edges: &mut [u8; 27648],
-    table: &[u16; 7680],
-    lists: &[u16; 13824],
-    words: &mut [u32; 4608],
+    nodes: &[u8; PLANE],
+    edges: &mut [u8; PLANES],
+    table: &[u16; TABLE],
+    lists: &[u16; LISTS],
+    words: &mut [u32; PLANE],
 )
     requires { ⌜ (from + count ≤ 13824) × (count ≤ 4608) × (length (now edges) ≡ 27648) × (length (now words) ≡ 4608) ⌝ }
     requires { ⌜ Safe z (now table) ⌝ }
@@ -110,7 +118,7 @@ pub fn flips(
     }
     let mut kind: usize = 0;
     while kind < z.kinds {
-        let k = table[96 + kind] as usize;
+        let k = table[NAMERS + kind] as usize;
         gather_edges(kind, k, from, count, nodes, edges, table, lists, words);
         lay_edges(kind, from, count, edges, lists, words);
         kind += 1;

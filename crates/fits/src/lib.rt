@@ -29,7 +29,7 @@ fn mark_fits(stage: Stage, marks: usize, mark: Mark) -> bool
 pub fn numbers(shape: Shape) -> usize
     ensures { λ r. ⌜ r ≡ nodesIn (shape .height) (shape .distance) (sheetsOf (shape .distance) + 1) ⌝ }
 {
-    (shape.height as usize * (shape.distance as usize + 1)) * (shape::sheets(shape) + 1)
+    (shape.height as usize * (shape.distance as usize + 1)) * (extent::sheets(shape) + 1)
 }
 
 // Pointers go along edges between so many sheets.
@@ -39,7 +39,7 @@ fn pointer_fits(shape: Shape, sheets: usize, place: Place, pointer: u8) -> bool
     if pointer == 0 {
         return true;
     }
-    steps::joined(shape, sheets, pointer, place)
+    joins::joined(shape, sheets, pointer, place)
 }
 
 // A node in its fresh state, its own number given.
@@ -81,7 +81,7 @@ pub fn node_fits(
     if !pointer_fits(shape, led, place, node.pointer) {
         return false;
     }
-    !(shape::is_boundary(shape, place.column) & node.defect)
+    !(extent::is_boundary(shape, place.column) & node.defect)
 }
 
 // Growth is at most 2, and nothing stands in a slot without an edge: the slot of the edge of a kind that the node at a place names. Most slots are
@@ -99,7 +99,7 @@ fn slot_fits(
     if (halves == 0) & !correction {
         return true;
     }
-    (halves <= 2) & steps::joined(shape, sheets, steps::namer(kind), place)
+    (halves <= 2) & joins::joined(shape, sheets, steps::namer(kind), place)
 }
 
 // The slots of node g, one a kind, of a window of n nodes.

@@ -4,7 +4,7 @@
 use Prim.Native.Nat.{ℕ, _+_, _-_, _*_}
 use mathlib.Core.Path.{_≡_}
 use mathlib.Core.Bool.{Bool, _&&_}
-use mathlib.Core.List.{List}
+use mathlib.Core.List.{List, []}
 use lib.Dec.{ltb, leb}
 use lib.ListN.{length, getD}
 use Rattle.flat.specs.Codes.{activeOf, defectOf, unrootedOf, pointerOf, growthOf, correctionOf}
@@ -56,6 +56,10 @@ stateOf nodes marks edges =
       growth = λ e. growthOf (getD edges e 0);
       correction = λ e. correctionOf (getD edges e 0);
     }
+
+-- by its nodes alone, for what reads no marks and no edges
+abbrev pub byNodes : List ℕ → State
+byNodes nodes = stateOf nodes [] []
 
 -- the arrays are as long as they are made
 pub record Long (nodes marks edges : List ℕ) : Type 0 where

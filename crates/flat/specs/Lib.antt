@@ -10,3 +10,5 @@ pub mod Step
 -- loops that store: one entry after the other, or at the places of a list
 pub mod Stored
 pub mod Laid
+-- readings stay in the arrays
+pub mod Bounds

@@ -1,6 +1,5 @@
 // The flat machine's arrays: what their numbers mean, and how they are read.
 ghost use mathlib.Core.Path.{_≡_};
-ghost use mathlib.Core.Bool.{_&&_};
 ghost use Prim.Native.Nat.{_+_, _-_, _≤_, _<_};
 ghost use lib.Dec.{eqb};
 ghost use Rattle.flat.specs.Codes.{nodeCode, activeOf, defectOf, unrootedOf, pointerOf, edgeCode, growthOf, correctionOf};
@@ -15,11 +14,32 @@ pub const PLANE: usize = 4608;
 // The edges: a plane for each of six kinds.
 pub const PLANES: usize = 6 * PLANE;
 
-// Offsets, ways back, naming directions, the nodes' numbers, a fresh sheet's edges, and the bottom layer's edges by number.
+// The table of a shape. Its first parts, of 32 entries each: by direction, from 0, how far its neighbour lies, with the margin added, how far its
+// edge (SLOTS), and the pointer back (BACKS); by kind, the direction in which a node names its edge (NAMERS); by pointer, whether it has a D
+// (FALLS); by kind, whether its edges go up (RISES). Then each node's number at its entry, a fresh sheet's edges kind by kind, as many entries for each as the
+// largest sheet has nodes (FRESH), and the bottom layer's edges by number (PLACES).
 pub const TABLE: usize = 7680;
 
-// Two work lists and the live nodes.
+pub const PART: usize = 32;
+
+pub const SLOTS: usize = PART;
+
+pub const BACKS: usize = 2 * PART;
+
+pub const NAMERS: usize = 3 * PART;
+
+pub const FALLS: usize = 4 * PART;
+
+pub const RISES: usize = 5 * PART;
+
+pub const FRESH: usize = PLANE;
+
+pub const PLACES: usize = FRESH + 1536;
+
+// Two work lists, and from LIVE on the live nodes.
 pub const LISTS: usize = 3 * PLANE;
+
+pub const LIVE: usize = 2 * PLANE;
 
 // A mark that is reset.
 pub const RESET: u16 = 65535;
@@ -69,7 +89,7 @@ pub fn unrooted(v: u8) -> bool
 }
 
 pub fn pointer(v: u8) -> u8
-    ensures { λ r. ⌜ r ≡ pointerOf v ⌝ }
+    ensures { λ r. ⌜ (r ≡ pointerOf v) × (r < 32) ⌝ }
 {
     v / 8
 }

@@ -14,7 +14,7 @@ fn used_fit(w: Window) -> bool
 {
     let shape = w.shape;
     let stage = w.stage;
-    let n = shape::nodes(shape);
+    let n = extent::nodes(shape);
     let marks = fits::numbers(shape);
     let there = window::present(shape, w.next);
     let led = window::pointed(shape, stage, w.next);
@@ -42,16 +42,16 @@ pub fn well_formed(w: Window) -> bool
     ensures { λ r. ⌜ r ≡ wellFormed base w ⌝ }
 {
     let shape = w.shape;
-    if !shape::ranged(shape) {
+    if !extent::ranged(shape) {
         return false;
     }
-    if (w.next as usize) < shape::sheets(shape) {
+    if (w.next as usize) < extent::sheets(shape) {
         return false;
     }
     if !used_fit(w) {
         return false;
     }
-    let n = shape::nodes(shape);
+    let n = extent::nodes(shape);
     if !unused::rest_unused(w, n) {
         return false;
     }
@@ -61,5 +61,5 @@ pub fn well_formed(w: Window) -> bool
     if !unused::bits_unused(&w.correction, 3 * n) {
         return false;
     }
-    unused::bits_unused(&w.measured, shape::detectors(shape))
+    unused::bits_unused(&w.measured, extent::detectors(shape))
 }

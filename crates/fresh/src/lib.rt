@@ -39,7 +39,7 @@ fn fresh_window(shape: Shape) -> Window
     requires { ⌜ inRange (shape .height) (shape .distance) ≡ true ⌝ }
     ensures { λ r. ⌜ r ≡ freshWindow base shape ⌝ }
 {
-    let n = shape::nodes(shape);
+    let n = extent::nodes(shape);
     let mut nodes = [window::alone(0, false); MAX_NODES];
     let mut place = Place {
         depth: 0,
@@ -55,7 +55,7 @@ fn fresh_window(shape: Shape) -> Window
     Window {
         shape,
         stage: Stage::Rest,
-        next: shape::sheets(shape) as u32,
+        next: extent::sheets(shape) as u32,
         nodes,
         growth: [0; MAX_SLOTS],
         correction: [false; MAX_SLOTS],
@@ -67,7 +67,7 @@ fn fresh_window(shape: Shape) -> Window
 pub fn fresh(height: u32, distance: u32) -> Given
     ensures { λ r. ⌜ given (callAnswer (r .answer)) (r .window) ≡ leaves (freshCall base height distance) itself noWindow ⌝ }
 {
-    let shaped = shape::shape_of(height, distance);
+    let shaped = extent::shape_of(height, distance);
     match shaped {
         Shaped::Refused(f) => Given {
             answer: Called::Refused(f),

@@ -1,13 +1,11 @@
 -- GROW by entries: an edge gains a half for each active end, and a bottom node whose pointer falls is cut. Assumes nothing.
-use Prim.Native.Nat.{ℕ, _+_, _*_, _/_, _%_, _≤_, _<_, min}
+use Prim.Native.Nat.{ℕ, _+_, _*_, _/_, _%_, _≤_, _<_}
 use mathlib.Core.Path.{_≡_}
 use mathlib.Core.Bool.{Bool, true, false}
 use mathlib.Core.List.{List}
-use lib.Dec.{eqb}
 use lib.ListN.{length, getD}
 use Rattle.shape.specs.Choice.{if}
-use Rattle.window.specs.Lists.{bit}
-use Rattle.flat.specs.Codes.{activeOf, pointerOf, growthOf, noEdge, resetCode}
+use Rattle.flat.specs.Codes.{activeOf, pointerOf, growthOf, resetCode}
 use Rattle.flat.specs.Entries.{plane, cell, within, overBy}
 use Rattle.flat.specs.Plan.{Plan}
 use Rattle.flat.specs.Rule.{growthAfter}

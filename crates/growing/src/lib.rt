@@ -1,5 +1,7 @@
 // Grow on the flat machine's arrays: edges gain halves, and bottom nodes whose pointer falls are cut.
+use flat::FALLS;
 use flat::MARGIN;
+use flat::NAMERS;
 use flat::PLANE;
 use flat::PLANES;
 use flat::RESET;
@@ -44,7 +46,7 @@ fn gain(v: u8, here: u8, other: u8) -> u8
 }
 
 // One kind's edges gain a half for each active end; an edge's other end lies by - 512 from the one that names it.
-pub fn grow_plane(first: usize, by: u16, z: Sizes, nodes: &[u8; PLANE], edges: &mut [u8; PLANES])
+fn grow_plane(first: usize, by: u16, z: Sizes, nodes: &[u8; PLANE], edges: &mut [u8; PLANES])
     requires { ⌜ (first ≤ 23040) × (by ≤ 1008) × (z .nodes ≤ 3600) ⌝ }
     ensures { λ _. ⌜ now (edges .exit) ≡ stored (first + 512) (λ i. gained (getD (now (edges .entry)) (first + 512 + i) 0) (activeOf (getD (now (nodes .entry)) (512 + i) 0)) (activeOf (getD (now (nodes .entry)) (i + by) 0))) (z .nodes) (now (edges .entry)) ⌝ }
 {
@@ -67,7 +69,7 @@ pub fn grow_kinds(z: Sizes, nodes: &[u8; PLANE], edges: &mut [u8; PLANES], table
     let kinds = z.kinds;
     let mut kind: usize = 0;
     while kind < kinds {
-        let k = table[96 + kind] as usize;
+        let k = table[NAMERS + kind] as usize;
         grow_plane(kind * PLANE, table[k], z, nodes, edges);
         kind += 1;
     }
@@ -77,7 +79,7 @@ pub fn grow_kinds(z: Sizes, nodes: &[u8; PLANE], edges: &mut [u8; PLANES], table
 fn told(v: u8) -> usize
     ensures { λ r. ⌜ (r ≡ 128 + v / 8) × (r ≤ 159) ⌝ }
 {
-    128 + (v / 8) as usize
+    FALLS + (v / 8) as usize
 }
 
 fn cut_node(v: u8, falls: u16) -> u8

@@ -18,7 +18,7 @@ pub fn read_round(shape: Shape, src: &[u8], at: usize, defects: &mut [u8]) -> Ro
     if let Tested::Refused(f) = tested {
         return RoundRead::Refused(f);
     }
-    if defects.len() != shape::detectors(shape) {
+    if defects.len() != extent::detectors(shape) {
         return RoundRead::Refused(Refusal::Detectors);
     }
     if src.len() <= at {
@@ -38,7 +38,7 @@ pub fn write_round(shape: Shape, defects: &[u8], out: &mut [u8], at: usize) -> W
     if let Tested::Refused(f) = tested {
         return Wrote::Not(f);
     }
-    if defects.len() != shape::detectors(shape) {
+    if defects.len() != extent::detectors(shape) {
         return Wrote::Not(Refusal::Detectors);
     }
     if !list_writer::are_bits(defects) {

@@ -1,4 +1,4 @@
--- The ends of an edge of either model, and a measured sheet, in plain numbers, to be read beside documents 01 and 02. Assumes nothing.
+-- The ends of an edge of either model, a cluster at rest, and a measured sheet, in plain numbers, to be read beside documents 01 and 02. Assumes nothing.
 use Prim.Native.Nat.{ℕ, _+_, _%_, _<_}
 use native.Mathlib.Omega.{arith}
 use mathlib.Core.Path.{_≡_, refl, sym, _∙_, ap}
@@ -14,7 +14,9 @@ use Rattle.layers.specs.declared.Edge.{Edge}
 use Rattle.window.specs.Lists.{bit, xor}
 use Rattle.window.specs.Measured.{isSet, differences, asSheet}
 use Rattle.window.specs.LawsMeasured.{difference-at, sheet-none, sheet-at}
-use Rattle.law.specs.Law.{Spot, nearEnd, farEnd}
+use Rattle.window.specs.Window.{size}
+use Rattle.window.specs.declared.Window.{Window}
+use Rattle.law.specs.Law.{Spot, nearEnd, farEnd, Joined, number, Rested}
 use Rattle.law.specs.Bits.{bit-add, byte-bit}
 use Rattle.law.specs.Spots.{spot-by}
 
@@ -77,6 +79,13 @@ plain-diagonals =
       east = λ n r c. spot-by (farEnd circuit n (edge 4 r c)) (spot (n + 1) r (c + 1)) (omega arith) (omega arith) (omega arith);
       south-east = λ n r c. spot-by (farEnd circuit n (edge 5 r c)) (spot (n + 1) (r + 1) (c + 1)) (omega arith) (omega arith) (omega arith);
     }
+
+-- A CLUSTER AT REST: no node of it has a lower number than its root
+pub record PlainCluster (T : Table) (w : Window) : Type 0 where
+  pub lowest : (R : Rested T w) (g u : ℕ) (l : g < size w) → Joined T w g u → number T w u < number T w (R .clusters g l .root) → ⊥
+
+pub plain-cluster : (T : Table) (w : Window) → PlainCluster T w
+plain-cluster T w = record { lowest = λ R g u l j h. let z = R .clusters g l .lowest u j in omega arith }
 
 -- THE LAST MEASURED SHEET, and what a raw call receives
 pub record PlainSheet : Type 0 where

@@ -6,6 +6,7 @@ use native.Mathlib.Omega.{arith}
 use mathlib.Core.Path.{_≡_, refl, sym, _∙_, ap}
 use mathlib.Core.Bool.{true, false}
 use mathlib.Core.List.{List, [], _∷_}
+use lib.ListN.{getD}
 use Rattle.refusal.specs.Laws.{undone}
 use Rattle.list.specs.Sheet as list
 use Rattle.layers.specs.Layers as layers
@@ -28,7 +29,7 @@ use Rattle.window.specs.Window.{size, at}
 use Rattle.window.specs.declared.Stage.the-variants.{Rest}
 use Rattle.window.specs.declared.Window.{Window}
 use Rattle.law.specs.Law as law
-use Rattle.law.specs.Law.{Call, Receipt, Played, Spot, received, committed, pending, standing, escaped, ending, play, start, Rested}
+use Rattle.law.specs.Law.{Call, Receipt, Played, Spot, received, committed, pending, standing, escaped, ending, play, start, receipt, sheets, NothingLeft, AbsentEmpty, Rested}
 
 -- the five terms of the law at a detector
 pub record Terms : Type 0 where
@@ -107,6 +108,40 @@ pub record Met : Type 0 where
 pub met : Met
 unfolding opened
 met = record { stands = refl; pends = refl; commits = refl; formed = refl; still = refl; escapes = refl }
+
+-- NOTHING LEAVES WITH THE ABSENT ROUNDS 0, 1 and 2; with round 3 the edge does
+
+zeros : (i : ℕ) → getD {A = ℕ} (0 ∷ 0 ∷ 0 ∷ []) i 0 ≡ 0
+zeros zero = refl
+zeros (suc zero) = refl
+zeros (suc (suc zero)) = refl
+zeros (suc (suc (suc i))) = refl
+
+zero-one : (i : ℕ) → getD {A = ℕ} (0 ∷ []) i 0 ≡ 0
+zero-one zero = refl
+zero-one (suc i) = refl
+
+nothing-with : (n : ℕ) → receipt (tie 3) n .edges ≡ 0 ∷ 0 ∷ 0 ∷ [] → receipt (tie 3) n .escapes ≡ 0 ∷ [] → NothingLeft (receipt (tie 3) n)
+nothing-with n e f i = (rw e (zeros i), rw f (zero-one i))
+
+record Empties : Type 0 where
+  edges-0 : receipt (tie 3) 0 .edges ≡ 0 ∷ 0 ∷ 0 ∷ []
+  escapes-0 : receipt (tie 3) 0 .escapes ≡ 0 ∷ []
+  edges-1 : receipt (tie 3) 1 .edges ≡ 0 ∷ 0 ∷ 0 ∷ []
+  escapes-1 : receipt (tie 3) 1 .escapes ≡ 0 ∷ []
+  edges-2 : receipt (tie 3) 2 .edges ≡ 0 ∷ 0 ∷ 0 ∷ []
+  escapes-2 : receipt (tie 3) 2 .escapes ≡ 0 ∷ []
+  three : sheets (tie 3) ≡ 3
+
+absent-are : Empties
+unfolding opened
+absent-are = record { edges-0 = refl; escapes-0 = refl; edges-1 = refl; escapes-1 = refl; edges-2 = refl; escapes-2 = refl; three = refl }
+
+pub absent-empty : AbsentEmpty (tie 3)
+absent-empty zero l = nothing-with 0 (absent-are .edges-0) (absent-are .escapes-0)
+absent-empty (suc zero) l = nothing-with 1 (absent-are .edges-1) (absent-are .escapes-1)
+absent-empty (suc (suc zero)) l = nothing-with 2 (absent-are .edges-2) (absent-are .escapes-2)
+absent-empty (suc (suc (suc n))) l = absurd (omega (arith, absent-are .three))
 
 abbrev held : Window
 held = ungrown .window

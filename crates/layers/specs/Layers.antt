@@ -6,16 +6,12 @@ use mathlib.Core.Bool.{Bool, true, _&&_, _||_, not}
 use borrow.Author.Tests.{ltb-true, leb-true, lt-ltb, le-leb, not-true}
 use lib.Dec.{ltb, leb}
 use Rattle.shape.specs.Ranges.{halves, both}
-use Rattle.shape.specs.Choice.{if}
-use Rattle.shape.specs.Sizes.{inRange}
 use Rattle.shape.specs.Nodes.{countIn, placeIn}
 use Rattle.shape.specs.Counting.{count-place, place-count, count-lt, within-place}
 use Rattle.steps.specs.Steps.{Table, step, namer, goes, fits, stays, beside, across, bothDetectors}
 use Rattle.steps.specs.Joins.{Clear, Joins, clear, clear-fits}
 use Rattle.steps.specs.Proper.{points}
 use Rattle.layers.specs.declared.Edge.{Edge}
-use Rattle.layers.specs.declared.EdgeFound.{EdgeFound}
-use Rattle.layers.specs.declared.EdgeFound.the-variants as listed
 use Rattle.shape.specs.declared.Place.{Place}
 use Rattle.steps.specs.declared.Step.{Step}
 use Rattle.steps.specs.Ranks.{rank, pick, rank-lt, pick-rank, Picked, picked}
@@ -62,13 +58,6 @@ module _ (T : Table) (h d : ℕ) where
 
   unfoldable pub layerEdges : ℕ
   layerEdges = rank hasAt candidates
-
-  -- a number of a layer's edge, of a shape in range
-  abbrev pub isEdge : ℕ → Bool
-  isEdge i = inRange h d && ltb i layerEdges
-
-  unfoldable pub edgeAt : ℕ → EdgeFound
-  edgeAt i = if (isEdge i) (listed.Edge (edgeOf i)) listed.Nothing
 
 -- AN EDGE OF A STACK OF SHEETS: one within the sheet, and both its ends' depths are there
 

@@ -1,7 +1,6 @@
 pub mod Layers
 pub mod Boxes
 pub mod Layer
-pub mod Limits
 pub mod Cases
 pub mod LawsLayer
 pub mod Document

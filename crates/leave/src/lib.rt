@@ -1,5 +1,6 @@
 // What leaves with a round, on the flat machine's arrays: the bottom layer's correction bits and the bottom sheet's defects.
 use flat::MARGIN;
+use flat::PLACES;
 use flat::PLANE;
 use flat::PLANES;
 use flat::Sizes;
@@ -36,7 +37,7 @@ pub fn commit(edges: &[u8; PLANES], table: &[u16; TABLE], out: &mut [u8])
 {
     let mut i: usize = 0;
     while i < out.len() {
-        let e = table[6144 + i] as usize;
+        let e = table[PLACES + i] as usize;
         out[i] = corrected_bit(edges[e]);
         i += 1;
     }

@@ -95,14 +95,6 @@ pub fn measured(entries: &[u8]) -> Measure
     }
 }
 
-// How many bytes a list has in a stream.
-pub fn list_len(entries: &[u8]) -> usize
-    ensures { λ r. ⌜ r ≡ length (listedOf (now (entries .entry))) ⌝ }
-{
-    let m = measured(entries);
-    m.len
-}
-
 // Writes a list, of which so many entries are set, at the front of a buffer that has room, and answers its bytes. It looks for one set entry
 // after another, and at none behind the last.
 pub fn put_measured(entries: &[u8], ones: u64, out: &mut [u8]) -> usize

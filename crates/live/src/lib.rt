@@ -1,5 +1,6 @@
 // The live nodes: all that are not inert. Their list stands behind the two work lists.
 use flat::LISTS;
+use flat::LIVE;
 use flat::MARGIN;
 use flat::PLANE;
 use flat::PLANES;
@@ -13,13 +14,10 @@ ghost use lib.ListN.{length, getD};
 ghost use Rattle.flat.specs.Codes.{activeOf, defectOf, growthOf};
 ghost use Rattle.flat.specs.Entries.{within};
 ghost use Rattle.flat.specs.Plan.{planOf, Safe};
-ghost use Rattle.flat.specs.Step.{listAt, Places};
+ghost use Rattle.flat.specs.Step.{listAt, Places, liveAt};
 ghost use Rattle.flat.specs.Stored.{stored};
 ghost use Rattle.queue.specs.Queue.{Queue, Empty, Inside};
 ghost use Rattle.live.specs.Enlisted.{Enlisted, Spread};
-
-// Where the list of live nodes begins.
-pub const LIVE: usize = 9216;
 
 // The list of all nodes.
 pub fn all_nodes(z: Sizes, lists: &mut [u16; LISTS], queued: &mut [bool; PLANE]) -> usize
@@ -47,8 +45,8 @@ pub fn sink_live(
     requires { ⌜ (z .nodes ≤ 3600) × (z .sheet ≤ 240) × (count ≤ 4608) ⌝ }
     requires { ⌜ length (now lists) ≡ 13824 ⌝ }
     requires { ⌜ Empty (now queued) ⌝ }
-    requires { ⌜ Places (z .nodes) count (listAt (now lists) 9216) ⌝ }
-    ensures { λ r. ⌜ Enlisted (z .nodes) 0 (now (lists .entry)) (λ i. ltb (listAt (now (lists .entry)) 9216 i + z .sheet) (512 + z .nodes)) (λ i. listAt (now (lists .entry)) 9216 i + z .sheet) count r (now (lists .exit)) (now (queued .exit)) ⌝ }
+    requires { ⌜ Places (z .nodes) count (liveAt (now lists)) ⌝ }
+    ensures { λ r. ⌜ Enlisted (z .nodes) 0 (now (lists .entry)) (λ i. ltb (liveAt (now (lists .entry)) i + z .sheet) (512 + z .nodes)) (λ i. liveAt (now (lists .entry)) i + z .sheet) count r (now (lists .exit)) (now (queued .exit)) ⌝ }
 {
     let mut q: usize = 0;
     let mut i: usize = 0;

@@ -8,7 +8,7 @@ use lib.ListN.{getD, length}
 use Rattle.shape.specs.Choice.{if}
 use Rattle.flat.specs.Codes.{activeOf, defectOf, unrootedOf, pointerOf, growthOf, correctionOf}
 use Rattle.flat.specs.Entries.{State, stateOf, plane, cell, within}
-use Rattle.flat.specs.Laid.{laid, length-laid}
+use Rattle.flat.specs.Laid.{laid, length-laid, laid-seen}
 use Rattle.flat.specs.LawsCodes.{node-active, node-defect, node-unrooted, node-pointer}
 use Rattle.flat.specs.Plan.{Plan}
 use Rattle.flat.specs.Rule.{floodOf, activeAfter, defectAfter, unrootedAfter, stirs, correctionAfter}
@@ -18,8 +18,7 @@ use Rattle.flat.specs.LawsEntries.{inside}
 use Rattle.node_step.specs.Words.{markIn, nodeIn, stirIn}
 use Rattle.edge_step.specs.Each.{Each}
 use Rattle.edge_step.specs.Edges.{Flipped}
-use Rattle.edge_step.specs.LawsLaid.{laid-seen}
-use Rattle.merge_step.specs.Pass.{Leaves}
+use Rattle.merge_step.specs.Pass.{PassLeaves}
 
 module _ (P : Plan) (nodes marks edges : List ℕ) (count : ℕ) (list : ℕ → ℕ) (n : ℕ) (low : n ≤ 3600) where
   abbrev st : State
@@ -91,16 +90,18 @@ module _ (P : Plan) (nodes marks edges : List ℕ) (count : ℕ) (list : ℕ →
               (flipped .correction kind x h w);
         }
 
-    pub step-done : (busy : Bool) → busy ≡ busyIn P (stateOf nodes marks edges') count list → Leaves P st count list n busy nodes' marks' edges' words
+    pub step-done : (busy : Bool) → busy ≡ busyIn P (stateOf nodes marks edges') count list → PassLeaves P st count list n busy nodes' marks' edges' words
     step-done busy b =
         record {
           passed = passed;
           is-busy = busy-same edges' (flipped .growth) busy b;
-          sized =
+          all-long =
               record {
-                of-nodes = length-laid list (λ i. nodeIn (getD words i 0)) count nodes ∙ long-nodes;
-                of-marks = length-laid list (λ i. markIn (getD words i 0)) count marks ∙ long-marks;
-                of-edges = flipped .long;
+                long = record {
+                  of-nodes = length-laid list (λ i. nodeIn (getD words i 0)) count nodes ∙ long-nodes;
+                  of-marks = length-laid list (λ i. markIn (getD words i 0)) count marks ∙ long-marks;
+                  of-edges = flipped .long;
+                };
                 of-words = told .long;
               };
           stirring = λ i h. subst (λ (b : Bool). stirIn (getD words i 0) ≡ stirs P st b (list i)) is (word i h .stir-back);

@@ -1,5 +1,10 @@
 // One merging step over a work list: what becomes of all listed nodes is gathered first, then laid down, so that each reads the state before
 // the step.
+use flat::LISTS;
+use flat::PLANE;
+use flat::PLANES;
+use flat::Sizes;
+use flat::TABLE;
 ghost use mathlib.Core.Path.{_≡_};
 ghost use mathlib.Core.Bool.{_&&_, not};
 ghost use Prim.Native.Nat.{ℕ, _+_, _≤_, _<_};
@@ -14,17 +19,10 @@ ghost use Rattle.flat.specs.Step.{listAt, Places, busyIn};
 ghost use Rattle.node_step.specs.After.{Tells};
 ghost use Rattle.node_step.specs.Words.{markIn, nodeIn};
 ghost use Rattle.edge_step.specs.Each.{Each};
-ghost use Rattle.merge_step.specs.Pass.{Sized, Leaves};
-
-// A node with a defect and a pointer that is not C.
-fn sends(v: u8) -> bool
-    ensures { λ r. ⌜ r ≡ (defectOf v && not (eqb (pointerOf v) 0)) ⌝ }
-{
-    flat::defect(v) & (flat::pointer(v) != 0)
-}
+ghost use Rattle.merge_step.specs.Pass.{AllLong, PassLeaves};
 
 // Whether a listed node sends its defect along.
-fn senders(from: usize, count: usize, nodes: &[u8; 4608], lists: &[u16; 13824]) -> bool
+fn senders(from: usize, count: usize, nodes: &[u8; PLANE], lists: &[u16; LISTS]) -> bool
     requires { ⌜ (from + count ≤ 13824) × (count ≤ 4608) ⌝ }
     requires { ⌜ ((i : ℕ) → i < count → listAt (now lists) from i < 4608) ⌝ }
     ensures { λ r. ⌜ r ≡ any count (λ i. defectOf (getD (now (nodes .entry)) (listAt (now (lists .entry)) from i) 0) && not (eqb (pointerOf (getD (now (nodes .entry)) (listAt (now (lists .entry)) from i) 0)) 0)) ⌝ }
@@ -33,7 +31,7 @@ fn senders(from: usize, count: usize, nodes: &[u8; 4608], lists: &[u16; 13824]) 
     let mut i: usize = 0;
     while i < count {
         let x = lists[from + i] as usize;
-        found = found | sends(nodes[x]);
+        found = found | syncing::sends(nodes[x]);
         i += 1;
     }
     found
@@ -42,15 +40,15 @@ fn senders(from: usize, count: usize, nodes: &[u8; 4608], lists: &[u16; 13824]) 
 // What becomes of each listed node, in a word; and whether one of them is busy.
 fn gather(
     sending: bool,
-    z: flat::Sizes,
+    z: Sizes,
     from: usize,
     count: usize,
-    nodes: &[u8; 4608],
-    marks: &[u16; 4608],
-    edges: &[u8; 27648],
-    table: &[u16; 7680],
-    lists: &[u16; 13824],
-    words: &mut [u32; 4608],
+    nodes: &[u8; PLANE],
+    marks: &[u16; PLANE],
+    edges: &[u8; PLANES],
+    table: &[u16; TABLE],
+    lists: &[u16; LISTS],
+    words: &mut [u32; PLANE],
 ) -> bool
     requires { ⌜ (from + count ≤ 13824) × (count ≤ 4608) × (length (now words) ≡ 4608) ⌝ }
     requires { ⌜ Safe z (now table) ⌝ }
@@ -74,10 +72,10 @@ fn gather(
 fn lay(
     from: usize,
     count: usize,
-    nodes: &mut [u8; 4608],
-    marks: &mut [u16; 4608],
-    lists: &[u16; 13824],
-    words: &[u32; 4608],
+    nodes: &mut [u8; PLANE],
+    marks: &mut [u16; PLANE],
+    lists: &[u16; LISTS],
+    words: &[u32; PLANE],
 )
     requires { ⌜ (from + count ≤ 13824) × (count ≤ 4608) ⌝ }
     requires { ⌜ ((i : ℕ) → i < count → listAt (now lists) from i < 4608) ⌝ }
@@ -96,21 +94,21 @@ fn lay(
 
 // One merging step over the list at `from`. The words tell which listed nodes stir.
 pub fn pass(
-    z: flat::Sizes,
+    z: Sizes,
     from: usize,
     count: usize,
-    nodes: &mut [u8; 4608],
-    marks: &mut [u16; 4608],
-    edges: &mut [u8; 27648],
-    table: &[u16; 7680],
-    lists: &[u16; 13824],
-    words: &mut [u32; 4608],
+    nodes: &mut [u8; PLANE],
+    marks: &mut [u16; PLANE],
+    edges: &mut [u8; PLANES],
+    table: &[u16; TABLE],
+    lists: &[u16; LISTS],
+    words: &mut [u32; PLANE],
 ) -> bool
     requires { ⌜ (from + count ≤ 13824) × (count ≤ 4608) ⌝ }
     requires { ⌜ Safe z (now table) ⌝ }
     requires { ⌜ Places (z .nodes) count (listAt (now lists) from) ⌝ }
-    requires { ⌜ Sized (now nodes) (now marks) (now edges) (now words) ⌝ }
-    ensures { λ r. ⌜ Leaves (planOf z (now (table .entry))) (stateOf (now (nodes .entry)) (now (marks .entry)) (now (edges .entry))) count (listAt (now (lists .entry)) from) (z .nodes) r (now (nodes .exit)) (now (marks .exit)) (now (edges .exit)) (now (words .exit)) ⌝ }
+    requires { ⌜ AllLong (now nodes) (now marks) (now edges) (now words) ⌝ }
+    ensures { λ r. ⌜ PassLeaves (planOf z (now (table .entry))) (stateOf (now (nodes .entry)) (now (marks .entry)) (now (edges .entry))) count (listAt (now (lists .entry)) from) (z .nodes) r (now (nodes .exit)) (now (marks .exit)) (now (edges .exit)) (now (words .exit)) ⌝ }
 {
     let sending = senders(from, count, nodes, lists);
     edge_step::flips(sending, z, from, count, nodes, edges, table, lists, words);

@@ -29,7 +29,7 @@ pub fn shape_by(height: u32, distance: u32) -> Shape
 fn shape_or_none(height: u32, distance: u32) -> Shape
     ensures { λ r. ⌜ r ≡ valueOr (shapeOf height distance) itself none ⌝ }
 {
-    match shape::shape_of(height, distance) {
+    match extent::shape_of(height, distance) {
         Shaped::Shape(shape) => shape,
         Shaped::Refused(_) => Shape {
             height: 0,
@@ -43,7 +43,7 @@ pub fn nodes(height: u32, distance: u32) -> usize
     ensures { λ r. ⌜ r ≡ sizeBy nodesOf height distance ⌝ }
 {
     let shape = shape_or_none(height, distance);
-    shape::nodes(shape)
+    extent::nodes(shape)
 }
 
 // the detectors of a sheet,
@@ -51,7 +51,7 @@ pub fn detectors(height: u32, distance: u32) -> usize
     ensures { λ r. ⌜ r ≡ sizeBy detectorsOf height distance ⌝ }
 {
     let shape = shape_or_none(height, distance);
-    shape::detectors(shape)
+    extent::detectors(shape)
 }
 
 // and the edges of a layer.
@@ -59,5 +59,5 @@ pub fn layer_edges(height: u32, distance: u32) -> usize
     ensures { λ r. ⌜ r ≡ sizeBy layerEdgesOf height distance ⌝ }
 {
     let shape = shape_or_none(height, distance);
-    shape::layer_edges(shape)
+    extent::layer_edges(shape)
 }

@@ -1,4 +1,9 @@
 // The work list of the next merging step: what stirs, and what lies over its open edges.
+use flat::LISTS;
+use flat::PLANE;
+use flat::PLANES;
+use flat::Sizes;
+use flat::TABLE;
 ghost use mathlib.Core.Logic.{_⊎_};
 ghost use Prim.Native.Nat.{ℕ, _+_, _≤_, _<_};
 ghost use lib.ListN.{getD};
@@ -11,15 +16,15 @@ ghost use Rattle.next_list.specs.Next.{Next};
 
 // The list at `from` is taken off the queue, and the next one is written at `to`. A word tells whether its node stirs.
 pub fn next_list(
-    z: flat::Sizes,
+    z: Sizes,
     from: usize,
     to: usize,
     count: usize,
-    edges: &[u8; 27648],
-    table: &[u16; 7680],
-    lists: &mut [u16; 13824],
-    queued: &mut [bool; 4608],
-    words: &[u32; 4608],
+    edges: &[u8; PLANES],
+    table: &[u16; TABLE],
+    lists: &mut [u16; LISTS],
+    queued: &mut [bool; PLANE],
+    words: &[u32; PLANE],
 ) -> usize
     requires { ⌜ (from ≤ 9216) × (to ≤ 9216) × ((from + 4608 ≤ to) ⊎ (to + 4608 ≤ from)) ⌝ }
     requires { ⌜ Safe z (now table) ⌝ }

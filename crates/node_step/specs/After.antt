@@ -2,18 +2,13 @@
 use Prim.Native.Nat.{ℕ}
 use mathlib.Core.Path.{_≡_}
 use mathlib.Core.Bool.{Bool, _&&_, _||_, not}
-use mathlib.Core.List.{List, []}
 use lib.Dec.{eqb}
 use Rattle.window.specs.Lists.{xor}
 use Rattle.flat.specs.Codes.{nodeCode, activeOf, defectOf, unrootedOf, pointerOf, resetCode}
-use Rattle.flat.specs.Entries.{State, stateOf}
+use Rattle.flat.specs.Entries.{State}
 use Rattle.flat.specs.Plan.{Plan}
 use Rattle.flat.specs.Rule.{floodOf, activeAfter, defectAfter, unrootedAfter, stirs}
 use Rattle.node_step.specs.Words.{Holds}
-
--- a state by its nodes alone, for what reads no marks and no edges
-abbrev pub nodesOf : List ℕ → State
-nodesOf nodes = stateOf nodes [] []
 
 -- busy by the number v and the mark m before, and the mark and whether it is active after
 abbrev pub busyBy : ℕ → ℕ → ℕ → Bool → Bool

@@ -1,9 +1,3 @@
--- what becomes of a node in one step, as a word
+-- what becomes of a node, in a word
 pub mod Words
 pub mod After
-pub mod LawsAfter
--- readings stay in the arrays
-pub mod Bounds
--- the turns of the loops over directions
-pub mod LawsScan
-pub mod LawsArrived

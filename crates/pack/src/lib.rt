@@ -12,7 +12,7 @@ use window::Node;
 use window::Stage;
 use window::Window;
 ghost use mathlib.Core.Path.{_≡_};
-ghost use Prim.Native.Nat.{ℕ, _+_, _*_, _≤_, _<_};
+ghost use Prim.Native.Nat.{_+_, _*_, _≤_, _<_};
 ghost use lib.ListN.{length, getD};
 ghost use Rattle.steps.specs.Steps.{base};
 ghost use Rattle.flat.specs.Codes.{markOf, nodeOf, growthOf, correctionOf};
@@ -69,7 +69,7 @@ fn growth_kinds(n: usize, edges: &[u8; PLANES], growth: &mut [u8; MAX_SLOTS])
     requires { ⌜ (n ≤ 3600) × (length (now growth) ≡ 10800) ⌝ }
     ensures { λ _. ⌜ now (growth .exit) ≡ growthsOn base n (now (edges .entry)) (now (growth .entry)) ⌝ }
 {
-    let kinds = shape::wide(steps::KINDS);
+    let kinds = extent::wide(steps::KINDS);
     let mut kind: usize = 0;
     while kind < kinds {
         growth_kind(kind * PLANE + MARGIN, n * kind, n, edges, growth);
@@ -93,7 +93,7 @@ fn bits_kinds(n: usize, edges: &[u8; PLANES], bits: &mut [bool; MAX_SLOTS])
     requires { ⌜ (n ≤ 3600) × (length (now bits) ≡ 10800) ⌝ }
     ensures { λ _. ⌜ now (bits .exit) ≡ bitsOn base n (now (edges .entry)) (now (bits .entry)) ⌝ }
 {
-    let kinds = shape::wide(steps::KINDS);
+    let kinds = extent::wide(steps::KINDS);
     let mut kind: usize = 0;
     while kind < kinds {
         bits_kind(kind * PLANE + MARGIN, n * kind, n, edges, bits);
@@ -113,7 +113,7 @@ pub fn pack(
 ) -> Window
     ensures { λ r. ⌜ r ≡ windowOf base shape stage next measured (stateOf (now (nodes .entry)) (now (marks .entry)) (now (edges .entry))) ⌝ }
 {
-    let n = shape::nodes(shape);
+    let n = extent::nodes(shape);
     let mut all = [window::alone(0, false); MAX_NODES];
     let mut g: usize = 0;
     while g < n {

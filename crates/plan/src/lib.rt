@@ -1,33 +1,31 @@
 // The machine's table of a shape: directions, kinds, the nodes' numbers, a fresh sheet's edges and the bottom layer's, all by the table of steps.
+use flat::FRESH;
 use flat::MARGIN;
+use flat::NO_EDGE;
+use flat::PART;
+use flat::PLACES;
 use flat::PLANE;
 use flat::Sizes;
 use flat::TABLE;
+use shape::MAX_SHEET_NODES;
 use shape::Place;
 use shape::Shape;
 use steps::Shift;
 use steps::Step;
 ghost use mathlib.Core.Path.{_≡_};
 ghost use mathlib.Core.Bool.{true, _&&_};
-ghost use Prim.Native.Nat.{ℕ, _+_, _-_, _*_, _≤_, _<_};
+ghost use Prim.Native.Nat.{_+_, _-_, _*_, _≤_, _<_};
 ghost use lib.ListN.{length, replicate};
 ghost use Rattle.shape.specs.Choice.{if};
 ghost use Rattle.shape.specs.Sizes.{inRange, sheetsOf};
 ghost use Rattle.shape.specs.Nodes.{boundaryNodes};
 ghost use Rattle.steps.specs.Steps.{base};
 ghost use Rattle.steps.specs.Ranks.{bit};
-ghost use Rattle.layers.specs.Boxes.{first as firstIn, end as endIn, rows, columns, within, named, areas};
+ghost use Rattle.layers.specs.Boxes.{first as firstIn, end as endIn, rows, columns, within, named};
 ghost use Rattle.flat.specs.Stored.{stored};
 ghost use Rattle.plan.specs.Passes.{passes, blocks};
 ghost use Rattle.plan.specs.Table.{sizesOf, small, offBy, slotBy, risesBy, headOf, rowNumber, rowOf, freshBy, areaOf, placeRow, freshOn, placesOn};
 ghost use Rattle.plan.specs.Filled.{Filled};
-
-// Where a kind's fresh edges stand, one kind after the other, and the bottom layer's edges.
-const FRESH: usize = PLANE;
-
-const KIND: usize = 240;
-
-const PLACES: usize = 6144;
 
 // The rectangle of rows and columns from which a step goes along an edge.
 pub struct Area {
@@ -54,13 +52,13 @@ pub fn sizes(shape: Shape) -> Sizes
     requires { ⌜ inRange (shape .height) (shape .distance) ≡ true ⌝ }
     ensures { λ r. ⌜ r ≡ sizesOf base (shape .height) (shape .distance) ⌝ }
 {
-    let h = shape::wide(shape.height);
+    let h = extent::wide(shape.height);
     Sizes {
-        dirs: shape::wide(dirs()),
-        kinds: shape::wide(kinds()),
-        nodes: shape::nodes(shape),
-        sheet: shape::product(h, shape::wide(shape.distance) + 1),
-        bound: shape::product(2 * h, shape::sheets(shape) + 1) as u16,
+        dirs: extent::wide(dirs()),
+        kinds: extent::wide(kinds()),
+        nodes: extent::nodes(shape),
+        sheet: extent::product(h, extent::wide(shape.distance) + 1),
+        bound: extent::product(2 * h, extent::sheets(shape) + 1) as u16,
     }
 }
 
@@ -75,7 +73,7 @@ fn off(shape: Shape, step: Step) -> u16
     let row = step.row;
     let column = step.column;
     let sheet = step.sheet;
-    let on = shape::index_of(
+    let on = extent::index_of(
         shape,
         Place {
             depth: sheet.more,
@@ -83,7 +81,7 @@ fn off(shape: Shape, step: Step) -> u16
             column: column.more,
         },
     );
-    let back = shape::index_of(
+    let back = extent::index_of(
         shape,
         Place {
             depth: sheet.less,
@@ -139,8 +137,8 @@ fn head(shape: Shape, i: usize) -> u16
     requires { ⌜ i < 192 ⌝ }
     ensures { λ r. ⌜ r ≡ headOf base (shape .height) (shape .distance) i ⌝ }
 {
-    let part = i / 32;
-    let k = (i % 32) as u8;
+    let part = i / PART;
+    let k = (i % PART) as u8;
     let step = steps::step_of(k + 1);
     if part == 0 {
         return off(shape, step);
@@ -152,7 +150,7 @@ fn head(shape: Shape, i: usize) -> u16
         return step.back as u16;
     }
     if part == 3 {
-        return shape::less_one(steps::namer(k)) as u16;
+        return extent::less_one(steps::namer(k)) as u16;
     }
     if part == 4 {
         return flag(steps::falls(k));
@@ -205,9 +203,9 @@ fn numbers(shape: Shape, bound: u16, table: &mut [u16; TABLE])
     requires { ⌜ bound ≡ boundaryNodes (shape .height) (shape .distance) ⌝ }
     ensures { λ _. ⌜ now (table .exit) ≡ blocks 512 (shape .distance + 1) (rowOf (shape .height) (shape .distance)) (shape .distance + 1) (shape .height * sheetsOf (shape .distance)) (now (table .entry)) ⌝ }
 {
-    let d = shape::wide(shape.distance);
-    let n = shape::product(shape::wide(shape.height), shape::sheets(shape));
-    let inner = shape::less_one(shape.distance) as u16;
+    let d = extent::wide(shape.distance);
+    let n = extent::product(extent::wide(shape.height), extent::sheets(shape));
+    let inner = extent::less_one(shape.distance) as u16;
     let mut x = MARGIN;
     let mut low: u16 = 0;
     let mut high = bound - 1;
@@ -235,13 +233,13 @@ fn less(a: usize, b: usize) -> usize
 fn first(shift: Shift) -> usize
     ensures { λ r. ⌜ r ≡ firstIn shift ⌝ }
 {
-    less(shape::wide(shift.less), shape::wide(shift.more))
+    less(extent::wide(shift.less), extent::wide(shift.more))
 }
 
 fn end(shift: Shift, n: usize) -> usize
     ensures { λ r. ⌜ r ≡ endIn shift n ⌝ }
 {
-    less(n, less(shape::wide(shift.more), shape::wide(shift.less)))
+    less(n, less(extent::wide(shift.more), extent::wide(shift.less)))
 }
 
 fn area_of(shape: Shape, kind: u8) -> Area
@@ -250,10 +248,10 @@ fn area_of(shape: Shape, kind: u8) -> Area
     let step = steps::step_of(steps::namer(kind));
     let row = step.row;
     let column = step.column;
-    let d = shape::wide(shape.distance);
+    let d = extent::wide(shape.distance);
     let top = first(row);
-    let bottom = end(row, shape::wide(shape.height));
-    if steps::beside(step) {
+    let bottom = end(row, extent::wide(shape.height));
+    if joins::beside(step) {
         return Area {
             top,
             bottom,
@@ -275,7 +273,7 @@ fn fresh(there: bool) -> u16
     if there {
         return 0;
     }
-    flat::NO_EDGE as u16
+    NO_EDGE as u16
 }
 
 fn fresh_row(x: usize, n: usize, there: bool, left: usize, right: usize, table: &mut [u16; TABLE])
@@ -296,9 +294,9 @@ fn fresh_kind(shape: Shape, kind: u8, table: &mut [u16; TABLE])
     ensures { λ _. ⌜ now (table .exit) ≡ freshOn base (shape .height) (shape .distance) kind (now (table .entry)) ⌝ }
 {
     let area = area_of(shape, kind);
-    let h = shape::wide(shape.height);
-    let w = shape::wide(shape.distance) + 1;
-    let mut x = FRESH + KIND * shape::wide(kind);
+    let h = extent::wide(shape.height);
+    let w = extent::wide(shape.distance) + 1;
+    let mut x = FRESH + MAX_SHEET_NODES * extent::wide(kind);
     let mut r: usize = 0;
     while r < h {
         let there = (area.top <= r) & (r < area.bottom);
@@ -345,11 +343,11 @@ fn places_kind(
     ensures { λ r. ⌜ (r ≡ start + rows (shape .height) (named base kind) * columns (shape .distance) (named base kind)) × (now (table .exit) ≡ blocks start (columns (shape .distance) (named base kind)) (placeRow (shape .distance) bottom (named base kind) kind) (columns (shape .distance) (named base kind)) (rows (shape .height) (named base kind)) (now (table .entry))) ⌝ }
 {
     let area = area_of(shape, kind);
-    let w = shape::wide(shape.distance) + 1;
+    let w = extent::wide(shape.distance) + 1;
     let n = less(area.right, area.left);
     let m = less(area.bottom, area.top);
     let mut x = start;
-    let mut from = PLANE * shape::wide(kind) + bottom + shape::product(area.top, w) + area.left;
+    let mut from = PLANE * extent::wide(kind) + bottom + extent::product(area.top, w) + area.left;
     let mut i: usize = 0;
     while i < m {
         places_row(x, n, from, table);

@@ -1,5 +1,10 @@
 // The list of nodes that a merging step has to look at: each once, by a flag for each node.
-ghost use mathlib.Core.Path.{_≡_};
+use flat::LISTS;
+use flat::PLANE;
+use flat::PLANES;
+use flat::SLOTS;
+use flat::Sizes;
+use flat::TABLE;
 ghost use Prim.Native.Nat.{ℕ, _+_, _≤_, _<_};
 ghost use lib.ListN.{getD};
 ghost use Rattle.flat.specs.Codes.{growthOf};
@@ -11,8 +16,8 @@ pub fn push(
     x: usize,
     from: usize,
     count: usize,
-    lists: &mut [u16; 13824],
-    queued: &mut [bool; 4608],
+    lists: &mut [u16; LISTS],
+    queued: &mut [bool; PLANE],
 ) -> usize
     requires { ⌜ (x < 4608) × (from ≤ 9216) ⌝ }
     requires { ⌜ Queue from count (now lists) (now queued) ⌝ }
@@ -29,13 +34,13 @@ pub fn push(
 // A node and what lies over its open edges.
 pub fn push_open(
     x: usize,
-    z: flat::Sizes,
+    z: Sizes,
     from: usize,
     count: usize,
-    edges: &[u8; 27648],
-    table: &[u16; 7680],
-    lists: &mut [u16; 13824],
-    queued: &mut [bool; 4608],
+    edges: &[u8; PLANES],
+    table: &[u16; TABLE],
+    lists: &mut [u16; LISTS],
+    queued: &mut [bool; PLANE],
 ) -> usize
     requires { ⌜ (512 ≤ x) × (x < 512 + z .nodes) × (from ≤ 9216) ⌝ }
     requires { ⌜ Safe z (now table) ⌝ }
@@ -45,7 +50,7 @@ pub fn push_open(
     let mut q = push(x, from, count, lists, queued);
     let mut k: usize = 0;
     'ways: while k < z.dirs {
-        let e = flat::over(x, table[32 + k]);
+        let e = flat::over(x, table[SLOTS + k]);
         if !flat::is_open(edges[e]) {
             k += 1;
             continue 'ways;
@@ -58,7 +63,7 @@ pub fn push_open(
 }
 
 // The list's nodes are no longer queued.
-pub fn unqueue(from: usize, count: usize, lists: &[u16; 13824], queued: &mut [bool; 4608])
+pub fn unqueue(from: usize, count: usize, lists: &[u16; LISTS], queued: &mut [bool; PLANE])
     requires { ⌜ from ≤ 9216 ⌝ }
     requires { ⌜ ((i : ℕ) → i < count → listAt (now lists) from i < 4608) ⌝ }
     requires { ⌜ Queue from count (now lists) (now queued) ⌝ }

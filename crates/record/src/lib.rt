@@ -38,7 +38,7 @@ pub enum ResultRead {
 pub fn test_place(shape: Shape, len: usize, at: usize) -> Tested
     ensures { λ r. ⌜ testedAnswer r ≡ unless (placeTests shape len at) (done tt 0) ⌝ }
 {
-    let tested = shape::in_range(shape);
+    let tested = extent::in_range(shape);
     if let Tested::Refused(f) = tested {
         return Tested::Refused(f);
     }
@@ -52,13 +52,13 @@ pub fn test_place(shape: Shape, len: usize, at: usize) -> Tested
 fn header_from(src: &[u8], height: u32, at: usize) -> HeaderRead
     ensures { λ r. ⌜ headerAnswer r ≡ headerFrom (now (src .entry)) height at ⌝ }
 {
-    if !shape::height_ok(height) {
+    if !extent::height_ok(height) {
         return HeaderRead::Refused(Refusal::Height);
     }
     match number::read_number(src, at) {
         Read::Refused(f) => HeaderRead::Refused(f),
         Read::Number(distance, behind) => {
-            if !shape::distance_ok(distance) {
+            if !extent::distance_ok(distance) {
                 return HeaderRead::Refused(Refusal::Distance);
             }
             HeaderRead::Shape(

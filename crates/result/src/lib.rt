@@ -56,10 +56,10 @@ pub fn read_result(
     if let Tested::Refused(f) = tested {
         return ResultRead::Refused(f);
     }
-    if edges.len() != shape::layer_edges(shape) {
+    if edges.len() != extent::layer_edges(shape) {
         return ResultRead::Refused(Refusal::Edges);
     }
-    if escapes.len() != shape::detectors(shape) {
+    if escapes.len() != extent::detectors(shape) {
         return ResultRead::Refused(Refusal::Escapes);
     }
     if src.len() <= at {

@@ -121,10 +121,10 @@ pub fn write_result(
     if let Tested::Refused(f) = tested {
         return Wrote::Not(f);
     }
-    if edges.len() != shape::layer_edges(shape) {
+    if edges.len() != extent::layer_edges(shape) {
         return Wrote::Not(Refusal::Edges);
     }
-    if escapes.len() != shape::detectors(shape) {
+    if escapes.len() != extent::detectors(shape) {
         return Wrote::Not(Refusal::Escapes);
     }
     let first = list_writer::measured(edges);

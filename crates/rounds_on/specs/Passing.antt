@@ -14,20 +14,16 @@ use Rattle.steps.specs.Steps.{base}
 use Rattle.window.specs.Formed.{wellFormed}
 use Rattle.window.specs.Window.{isRest}
 use Rattle.window.specs.declared.Window.{Window}
-use Rattle.steps.specs.Models.{suited-base}
 use Rattle.decoding.specs.Decoding.{Line, turnedBack, Recorded, wrote, stopped, recorded, recordAt, Rounds, rounds}
 use Rattle.decoding.specs.Answers.{RecordAnswer, over, RecordReturned, recordReturned, recordedLeaves, recordLeaves, RoundsReturned, roundsReturned, roundsLeave}
 use Rattle.decoding.specs.Answers as answers
-use Rattle.decoding.specs.LawsDecoding.{record-tested, record-unformed, record-forward, record-formed, rounds-more, rounds-stop}
-use Rattle.rounds_on.specs.Measured.{record-measured}
+use Rattle.decoding.specs.LawsDecoding.{record-tested, record-unformed, record-forward, rounds-more, rounds-stop}
 use Rattle.rounds_on.specs.Laid.{laid-none, laid-long, laid-more}
 
--- a record that is written: the rounds go on behind it, with a well-formed window that has the same measured sheet
+-- a record that is written: the rounds go on behind it
 pub record PassedOn (s : List ℕ) (w : Window) (at : ℕ) (old : List ℕ) (to : ℕ) (v : Window) (next : ℕ) (new : List ℕ) (behind : ℕ) : Type 0 where
   pub forward : at < next
   pub inside : next ≤ length s
-  pub formed : wellFormed base v ≡ true
-  pub measured : v .measured ≡ w .measured
   pub long : length new ≡ length old
   pub same : roundsLeave base s w at old to ≡ roundsLeave base s v next new behind
 
@@ -95,8 +91,6 @@ module _ (s : List ℕ) (w : Window) (at : ℕ) (old : List ℕ) (to : ℕ) wher
             record {
               forward = omega (arith, f .forward, q);
               inside = omega (arith, f .inside, q);
-              formed = rw x (record-formed base s (length old) w at to bytes u n e b suited-base);
-              measured = rw x (record-measured base s (length old) w at to bytes u n e);
               long = ap length m ∙ long;
               same = rw (q, h, m, x, long) on;
             }

@@ -6,23 +6,14 @@ use flat::PLANE;
 use flat::PLANES;
 use flat::Sizes;
 use flat::TABLE;
-use one_record::Held;
 use shape::Shape;
-ghost use mathlib.Core.Path.{_≡_};
-ghost use mathlib.Core.Bool.{true};
-ghost use Prim.Native.Nat.{_≤_};
+use turn::Held;
 ghost use Rattle.shape.specs.Choice.{if};
-ghost use Rattle.shape.specs.Sizes.{inRange};
-ghost use Rattle.steps.specs.Steps.{base};
 ghost use Rattle.decoding.specs.Answers.{lineOf};
-ghost use Rattle.flat.specs.Entries.{stateOf, Long};
+ghost use Rattle.flat.specs.Entries.{stateOf};
 ghost use Rattle.flat.specs.Plan.{planOf};
-ghost use Rattle.flat.specs.Step.{listAt};
-ghost use Rattle.plan.specs.Table.{sizesOf};
-ghost use Rattle.plan.specs.Filled.{Filled};
-ghost use Rattle.round_step.specs.Falls.{NoneOutside};
-ghost use Rattle.turn.specs.Turned.{Scratch};
-ghost use Rattle.one_record.specs.RecordOn.{HeldAt};
+ghost use Rattle.flat.specs.Step.{liveAt};
+ghost use Rattle.turn.specs.Ready.{Ready};
 ghost use Rattle.rounds_on.specs.Rounds.{RoundsOn};
 
 // How the rounds ended, the window's next round, the offsets reached, and whether the window stands in the other set.
@@ -54,15 +45,8 @@ pub fn rounds_on(
     queued: &mut [bool; PLANE],
     words: &mut [u32; PLANE],
 ) -> Rounds
-    requires { ⌜ inRange (shape .height) (shape .distance) ≡ true ⌝ }
-    requires { ⌜ z ≡ sizesOf base (shape .height) (shape .distance) ⌝ }
-    requires { ⌜ Filled base (shape .height) (shape .distance) (now table) ⌝ }
-    requires { ⌜ (Long (now nodes) (now marks) (now edges)) × (Long (now «other_nodes») (now «other_marks») (now «other_edges»)) ⌝ }
-    requires { ⌜ NoneOutside base (shape .height) (shape .distance) (now «other_edges») ⌝ }
-    requires { ⌜ Scratch (now lists) (now queued) (now words) ⌝ }
-    requires { ⌜ held .live ≤ 4608 ⌝ }
-    requires { ⌜ HeldAt (planOf z (now table)) shape (held .next) (stateOf (now nodes) (now marks) (now edges)) (held .rides) (held .live) (listAt (now lists) 9216) ⌝ }
-    ensures { λ r. ⌜ RoundsOn (planOf z (now (table .entry))) shape (held .next) (stateOf (now (nodes .entry)) (now (marks .entry)) (now (edges .entry))) (held .rides) (held .live) (listAt (now (lists .entry)) 9216) (now (src .entry)) at (now (out .entry)) to (lineOf (r .ending)) (r .at) (r .to) (now (out .exit)) (r .next) (if (r .other) (stateOf (now («other_nodes» .exit)) (now («other_marks» .exit)) (now («other_edges» .exit))) (stateOf (now (nodes .exit)) (now (marks .exit)) (now (edges .exit)))) ⌝ }
+    requires { ⌜ Ready shape z (held .next) (held .rides) (held .live) (now nodes) (now marks) (now edges) (now «other_nodes») (now «other_marks») (now «other_edges») (now table) (now lists) (now queued) (now words) ⌝ }
+    ensures { λ r. ⌜ RoundsOn (planOf z (now (table .entry))) shape (held .next) (stateOf (now (nodes .entry)) (now (marks .entry)) (now (edges .entry))) (held .rides) (held .live) (liveAt (now (lists .entry))) (now (src .entry)) at (now (out .entry)) to (lineOf (r .ending)) (r .at) (r .to) (now (out .exit)) (r .next) (if (r .other) (stateOf (now («other_nodes» .exit)) (now («other_marks» .exit)) (now («other_edges» .exit))) (stateOf (now (nodes .exit)) (now (marks .exit)) (now (edges .exit)))) ⌝ }
 {
     let mut here = held;
     let mut i = at;

@@ -18,12 +18,12 @@ use Rattle.window.specs.declared.Window.{Window}
 use Rattle.flat.specs.Codes.{growthOf}
 use Rattle.flat.specs.Entries.{State, within, overBy, stateOf, Long}
 use Rattle.flat.specs.Plan.{Plan}
-use Rattle.flat.specs.Step.{listAt, Places, busyIn, Passed, Follows}
+use Rattle.flat.specs.Step.{listAt, Places, Passed, Follows}
 use Rattle.queue.specs.Queue.{Queue, Empty, Inside}
 use Rattle.node_step.specs.Words.{stirIn}
 use Rattle.next_list.specs.Next.{Next}
 use Rattle.next_list.specs.LawsNext.{follows}
-use Rattle.merge_step.specs.Pass.{Sized, Leaves}
+use Rattle.merge_step.specs.Pass.{AllLong, PassLeaves}
 use Rattle.shows.specs.Next.{Live}
 use Rattle.shows.specs.Pass.{Going}
 use Rattle.shows.specs.Run.{Underway, Over, run-starts, run-spent, run-rests, run-goes}
@@ -48,7 +48,7 @@ Half from = (from ≡ 0) ⊎ (from ≡ 4608)
 -- IT GOES ON: so many steps were made; the list of live nodes is as it was
 pub record Middle (P : Plan) (n budget : ℕ) (st₀ : State) (rides : Bool) (count₀ : ℕ) (list₀ : ℕ → ℕ) (old : List ℕ)
     (made from count : ℕ) (nodes marks edges words lists : List ℕ) (queued : List Bool) : Type 0 where
-  pub sized : Sized nodes marks edges words
+  pub all-long : AllLong nodes marks edges words
   pub half : Half from
   pub queue : Queue from count lists queued
   pub kept : (i : ℕ) → 9216 ≤ i → getD lists i 0 ≡ getD old i 0
@@ -80,7 +80,7 @@ module _ (P : Plan) (n budget : ℕ) (rides : Bool) where
 -- a run stopped, with its last list on the queue
 pub record Stopped (P : Plan) (n budget : ℕ) (st₀ : State) (rides : Bool) (count₀ : ℕ) (list₀ : ℕ → ℕ) (old : List ℕ) (rest : Bool) (made from count : ℕ)
     (nodes marks edges words lists : List ℕ) (queued : List Bool) : Type 0 where
-  pub sized : Sized nodes marks edges words
+  pub all-long : AllLong nodes marks edges words
   pub half : Half from
   pub queue : Queue from count lists queued
   pub places : Places n count (listAt lists from)
@@ -111,11 +111,11 @@ half-apart from h = ⊎-elim (λ e. inl (omega arith)) (λ e. inr (omega arith))
 -- THE LOOP
 
 module _ (P : Plan) (n budget : ℕ) (rides : Bool) (st₀ : State) (count₀ : ℕ) (list₀ : ℕ → ℕ) (old : List ℕ) where
-  pub starts : (nodes marks edges words : List ℕ) (queued : List Bool) → st₀ ≡ stateOf nodes marks edges → list₀ ≡ listAt old 0 → Sized nodes marks edges words → Queue 0 count₀ old queued
+  pub starts : (nodes marks edges words : List ℕ) (queued : List Bool) → st₀ ≡ stateOf nodes marks edges → list₀ ≡ listAt old 0 → AllLong nodes marks edges words → Queue 0 count₀ old queued
       → Middle P n budget st₀ rides count₀ list₀ old 0 0 count₀ nodes marks edges words old queued
   starts nodes marks edges words queued e f s q =
       record {
-        sized = s;
+        all-long = s;
         half = inl refl;
         queue = q;
         kept = λ i l. refl;
@@ -140,7 +140,7 @@ module _ (P : Plan) (n budget : ℕ) (rides : Bool) (st₀ : State) (count₀ : 
     pub over-spent : budget ≤ made → Stopped P n budget st₀ rides count₀ list₀ old false made from count nodes marks edges words lists queued
     over-spent l =
         record {
-          sized = M .sized;
+          all-long = M .all-long;
           half = M .half;
           queue = M .queue;
           places = now-places;
@@ -149,7 +149,7 @@ module _ (P : Plan) (n budget : ℕ) (rides : Bool) (st₀ : State) (count₀ : 
         }
 
     -- ONE STEP
-    module _ (l : made < budget) (busy : Bool) (nodes' marks' edges' words' : List ℕ) (L : Leaves P st count list n busy nodes' marks' edges' words') where
+    module _ (l : made < budget) (busy : Bool) (nodes' marks' edges' words' : List ℕ) (L : PassLeaves P st count list n busy nodes' marks' edges' words') where
       abbrev st' : State
       st' = stateOf nodes' marks' edges'
 
@@ -159,7 +159,7 @@ module _ (P : Plan) (n budget : ℕ) (rides : Bool) (st₀ : State) (count₀ : 
       pub over-rests : busy ≡ false → Stopped P n budget st₀ rides count₀ list₀ old true (made + 1) from count nodes' marks' edges' words' lists queued
       over-rests b =
           record {
-            sized = L .sized;
+            all-long = L .all-long;
             half = M .half;
             queue = M .queue;
             places = now-places;
@@ -171,7 +171,7 @@ module _ (P : Plan) (n budget : ℕ) (rides : Bool) (st₀ : State) (count₀ : 
       pub goes-same : busy ≡ true → rides ≡ false → Middle P n budget st₀ rides count₀ list₀ old (made + 1) from count nodes' marks' edges' words' lists queued
       goes-same b f =
           record {
-            sized = L .sized;
+            all-long = L .all-long;
             half = M .half;
             queue = M .queue;
             kept = M .kept;
@@ -190,7 +190,7 @@ module _ (P : Plan) (n budget : ℕ) (rides : Bool) (st₀ : State) (count₀ : 
       goes-on b t to more lists' queued' e N =
           let h = half-low from (M .half) in
           record {
-            sized = L .sized;
+            all-long = L .all-long;
             half = subst Half (sym e) (half-other from (M .half));
             queue = N .queue;
             kept = λ i j. N .extends .behind i (omega arith) ∙ M .kept i j;

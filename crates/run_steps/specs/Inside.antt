@@ -11,7 +11,7 @@ use Rattle.steps.specs.Suited.{Suited}
 use Rattle.window.specs.Window.{size, to}
 use Rattle.window.specs.declared.Window.{Window}
 use Rattle.closure.specs.Closure.{Kept}
-use Rattle.closure.specs.Facts.{Facts, facts, node-within}
+use Rattle.closure.specs.Facts.{facts, node-within}
 use Rattle.flat.specs.Entries.{State, margin, within, overBy}
 use Rattle.flat.specs.Plan.{Plan}
 use Rattle.queue.specs.Queue.{Inside}

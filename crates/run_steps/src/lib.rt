@@ -5,13 +5,12 @@ use flat::PLANES;
 use flat::Sizes;
 use flat::TABLE;
 ghost use mathlib.Core.Path.{_≡_};
-ghost use Prim.Native.Nat.{ℕ, _≤_};
-ghost use lib.ListN.{length, getD};
+ghost use lib.ListN.{length};
 ghost use Rattle.flat.specs.Entries.{stateOf, Long};
 ghost use Rattle.flat.specs.Plan.{planOf, Safe};
 ghost use Rattle.flat.specs.Step.{listAt};
-ghost use Rattle.queue.specs.Queue.{Queue, Empty};
-ghost use Rattle.merge_step.specs.Pass.{Sized};
+ghost use Rattle.queue.specs.Queue.{Queue};
+ghost use Rattle.merge_step.specs.Pass.{AllLong};
 ghost use Rattle.run_steps.specs.Going.{Shown, Stopped, Finished};
 
 // Where a run stopped: at rest or not, the steps made, and the work list that it stands at.
@@ -43,7 +42,7 @@ fn steps(
     words: &mut [u32; PLANE],
 ) -> Stop
     requires { ⌜ Safe z (now table) ⌝ }
-    requires { ⌜ Sized (now nodes) (now marks) (now edges) (now words) ⌝ }
+    requires { ⌜ AllLong (now nodes) (now marks) (now edges) (now words) ⌝ }
     requires { ⌜ Queue 0 listed (now lists) (now queued) ⌝ }
     requires { ⌜ Shown (planOf z (now table)) (z .nodes) (stateOf (now nodes) (now marks) (now edges)) rides listed (listAt (now lists) 0) ⌝ }
     ensures { λ r. ⌜ Stopped (planOf z (now (table .entry))) (z .nodes) budget (stateOf (now (nodes .entry)) (now (marks .entry)) (now (edges .entry))) rides listed (listAt (now (lists .entry)) 0) (now (lists .entry)) (r .rest) (r .count) (r .from) (r .listed) (now (nodes .exit)) (now (marks .exit)) (now (edges .exit)) (now (words .exit)) (now (lists .exit)) (now (queued .exit)) ⌝ }

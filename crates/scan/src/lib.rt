@@ -41,7 +41,7 @@ fn pass_input(shape: Shape, src: &[u8], at: usize) -> RoundRead
     requires { ⌜ at ≤ length (now src) ⌝ }
     ensures { λ r. ⌜ roundAnswer r ≡ withoutValue (roundOf (now (src .entry)) shape at) ⌝ }
 {
-    let detectors = shape::detectors(shape);
+    let detectors = extent::detectors(shape);
     let mut defects = [0u8; MAX_DETECTORS];
     input::read_round(shape, src, at, &mut defects[..detectors])
 }
@@ -52,8 +52,8 @@ fn pass_result(shape: Shape, src: &[u8], at: usize) -> RoundRead
     requires { ⌜ at ≤ length (now src) ⌝ }
     ensures { λ r. ⌜ roundAnswer r ≡ withoutValue (resultOf (now (src .entry)) shape at) ⌝ }
 {
-    let layer = shape::layer_edges(shape);
-    let detectors = shape::detectors(shape);
+    let layer = extent::layer_edges(shape);
+    let detectors = extent::detectors(shape);
     let mut edges = [0u8; MAX_LAYER_EDGES];
     let mut escapes = [0u8; MAX_DETECTORS];
     match result::read_result(

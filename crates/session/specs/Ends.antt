@@ -15,7 +15,7 @@ use Rattle.decoding.specs.Answers.{roundsReturned, roundsLeave}
 use Rattle.flat.specs.Entries.{State}
 use Rattle.shows.specs.Shows.{windowOf}
 use Rattle.shows.specs.Unpack.{window-shown}
-use Rattle.rounds_on.specs.Rounds.{Reached}
+use Rattle.rounds_on.specs.Rounds.{RoundsEnd}
 
 -- the rounds end so
 abbrev pub Ends : Window → List ℕ → ℕ → List ℕ → ℕ → Line → ℕ → ℕ → List ℕ → Type 0
@@ -29,15 +29,15 @@ rest-is Merging e = absurd (undone (sym e))
 
 module _ (w : Window) (s : List ℕ) (at : ℕ) (old : List ℕ) (from : ℕ) (line : Line) (i j : ℕ) (new : List ℕ) (next : ℕ) where
   -- the window is packed
-  packed : (st : State) → Reached w s at old from line i j new next st → (v : Window) → v ≡ windowOf base (w .shape) Rest next (w .measured) st → roundsReturned line v i j new ≡ roundsLeave base s w at old from
+  packed : (st : State) → RoundsEnd w s at old from line i j new next st → (v : Window) → v ≡ windowOf base (w .shape) Rest next (w .measured) st → roundsReturned line v i j new ≡ roundsLeave base s w at old from
   packed st R v e =
       let u = R .window in
       let p : windowOf base (w .shape) Rest next (w .measured) st ≡ u = rw (← R .shape, ← R .next-is, ← R .measured, ← rest-is (u .stage) (R .rest)) (window-shown base u (R .kept) st (R .shows)) in
       ap (λ (x : Window). roundsReturned line x i j new) (e ∙ p) ∙ R .leaves
 
-  module _ (in-other : Bool) (other first : State) (R : Reached w s at old from line i j new next (if in-other other first)) (v : Window) where
+  module _ (in-other : Bool) (other first : State) (R : RoundsEnd w s at old from line i j new next (if in-other other first)) (v : Window) where
     pub packed-other : in-other ≡ true → v ≡ windowOf base (w .shape) Rest next (w .measured) other → roundsReturned line v i j new ≡ roundsLeave base s w at old from
-    packed-other t = packed other (subst (λ (st : State). Reached w s at old from line i j new next st) (if-true in-other other first t) R) v
+    packed-other t = packed other (subst (λ (st : State). RoundsEnd w s at old from line i j new next st) (if-true in-other other first t) R) v
 
     pub packed-first : in-other ≡ false → v ≡ windowOf base (w .shape) Rest next (w .measured) first → roundsReturned line v i j new ≡ roundsLeave base s w at old from
-    packed-first t = packed first (subst (λ (st : State). Reached w s at old from line i j new next st) (if-false in-other other first t) R) v
+    packed-first t = packed first (subst (λ (st : State). RoundsEnd w s at old from line i j new next st) (if-false in-other other first t) R) v

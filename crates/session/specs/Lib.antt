@@ -1,1 +1,2 @@
+-- how rounds on arrays end
 pub mod Ends

@@ -8,11 +8,11 @@ use flat::PLANE;
 use flat::PLANES;
 use flat::TABLE;
 use number::Wrote;
-use one_record::Held;
 use record::HeaderRead;
 use refusal::Refusal;
 use rounds_on::Rounds;
 use shape::Shape;
+use turn::Held;
 use window::Stage;
 use window::Window;
 ghost use mathlib.Core.Path.{_≡_};
@@ -44,7 +44,7 @@ fn decode_fresh(shape: Shape, src: &[u8], at: usize, out: &mut [u8], to: usize) 
     let mut queued = [false; PLANE];
     let mut words = [0; PLANE];
     let held = Held {
-        next: shape::sheets(shape) as u32,
+        next: extent::sheets(shape) as u32,
         rides: true,
         live: 0,
     };
@@ -69,7 +69,7 @@ fn decode_fresh(shape: Shape, src: &[u8], at: usize, out: &mut [u8], to: usize) 
     )
 }
 
-// Decodes round after round of a well-formed window at rest. All its nodes are live.
+// Decodes round after round of a well-formed window at rest. All its nodes are taken for live.
 fn decode_resting(w: Window, src: &[u8], at: usize, out: &mut [u8], to: usize) -> RoundsGiven
     requires { ⌜ wellFormed base w ≡ true ⌝ }
     requires { ⌜ isRest (w .stage) ≡ true ⌝ }

@@ -107,5 +107,5 @@ module _ (T : Table) (S : Suited T) (w : Window) (k : Kept T w) (rest : isRest (
       subst (λ (v : ℕ). named list count v ≡ true) (ap (λ (v : ℕ). overBy v (P .off (p - 1))) q ∙ pointer-entry T S w₂ F₂ st₂ H₂ P N g p l e) n)
 
   -- every node that the list does not name is inert after grow
-  pub turn-live : Live T (grown T (rounded T w bytes)) (λ g. named list count (entry g))
-  turn-live = live-grown T S w₁ k₁ lower (λ g. named list count (entry g)) live-lower kept opened
+  pub enlists-live : Live T (grown T (rounded T w bytes)) (λ g. named list count (entry g))
+  enlists-live = live-grown T S w₁ k₁ lower (λ g. named list count (entry g)) live-lower kept opened

@@ -12,7 +12,6 @@ use Rattle.shape.specs.declared.Shape.{Shape}
 use Rattle.steps.specs.Steps.{Table}
 use Rattle.steps.specs.Suited.{Suited}
 use Rattle.window.specs.Grow.{grown}
-use Rattle.window.specs.Measured.{measuring}
 use Rattle.window.specs.Round.{rounded}
 use Rattle.window.specs.LawsRun.{rests, goes-on, none-left}
 use Rattle.window.specs.Merging.{merged}
@@ -21,15 +20,13 @@ use Rattle.window.specs.Window.{isRest, isToGrow, size}
 use Rattle.window.specs.declared.Ran.{Ran}
 use Rattle.window.specs.declared.Window.{Window}
 use Rattle.closure.specs.Closure.{Kept}
-use Rattle.flat.specs.Entries.{State, entry}
+use Rattle.flat.specs.Entries.{State}
 use Rattle.flat.specs.Plan.{Plan}
-use Rattle.flat.specs.Step.{named, Places, busyIn, Passed, Follows}
-use Rattle.shows.specs.Planned.{Planned}
+use Rattle.flat.specs.Step.{busyIn, Passed, Follows}
 use Rattle.shows.specs.Shows.{Shows}
 use Rattle.shows.specs.Riding.{Riding}
 use Rattle.shows.specs.Next.{Live}
 use Rattle.shows.specs.Pass.{Going, pass-rest, pass-on, pass-shows, pass-going, pass-live, pass-riding, pass-kept}
-use Rattle.shows.specs.Turn.{Resting, grown-raw}
 
 -- what a run is, by its stage
 pub ran-grown : (T : Table) (budget : ℕ) (w : Window) → isToGrow (w .stage) ≡ true → ran T budget w ≡ stepsFrom T budget 0 (grown T w)
@@ -40,15 +37,10 @@ pub ran-merging : (T : Table) (budget : ℕ) (w : Window) → isToGrow (w .stage
 unfolding ran
 ran-merging T budget w e = ap (stepsFrom T budget 0) (if-false (isToGrow (w .stage)) (grown T w) w e)
 
--- after a round, and after a round of raw measurements
+-- after a round
 pub ran-round : (T : Table) (budget : ℕ) (w : Window) (defects : List ℕ) → ran T budget (rounded T w defects) ≡ stepsFrom T budget 0 (grown T (rounded T w defects))
 unfolding rounded
 ran-round T budget w defects = ran-grown T budget (rounded T w defects) refl
-
-pub ran-raw : (T : Table) (S : Suited T) (budget : ℕ) (w : Window) (defects bytes : List ℕ)
-    → ran T budget (measuring (rounded T w defects) bytes) ≡ stepsFrom T budget 0 (measuring (grown T (rounded T w defects)) bytes)
-unfolding rounded measuring
-ran-raw T S budget w defects bytes = ran-grown T budget (measuring (rounded T w defects) bytes) refl ∙ ap (stepsFrom T budget 0) (grown-raw T S (rounded T w defects) bytes)
 
 module _ (T : Table) (P : Plan) (budget : ℕ) (whole : Ran) (rides : Bool) (listed : ℕ → Bool) (w₀ : Window) where
   -- so many steps were made
@@ -139,18 +131,3 @@ module _ (T : Table) (P : Plan) (budget : ℕ) (whole : Ran) (rides : Bool) (lis
           live = λ t. pass-live T S P w st rides count list (U .going) t listed (U .live t);
           equals = sym (goes-on T made w budget l (pass-on T S P w st rides count list (U .going) b)) ∙ U .equals;
         }
-
--- AT REST AGAIN, with the live nodes of the turn
-pub over-resting : (T : Table) (P : Plan) (budget : ℕ) (whole : Ran) (w₀ : Window) (lively : ℕ) (live : ℕ → ℕ) (total : ℕ) (st : State)
-    → (E : Over T P budget whole true (λ g. named live lively (entry g)) w₀ true total st) → Planned T (w₀ .shape .height) (w₀ .shape .distance) P → Places (size w₀) lively live
-    → Resting T P (E .window) st lively live
-over-resting T P budget whole w₀ lively live total st E N places =
-    record {
-      kept = E .kept;
-      rest = E .still refl;
-      planned = subst (λ (sh : Shape). Planned T (sh .height) (sh .distance) P) (sym (E .shape)) N;
-      shows = E .shows;
-      riding = E .riding refl;
-      places = subst (λ (sh : Shape). Places (nodesOf (sh .height) (sh .distance)) lively live) (sym (E .shape)) places;
-      live = E .live refl;
-    }

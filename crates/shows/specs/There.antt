@@ -1,27 +1,20 @@
 -- WHICH EDGES ARE THERE, by sheet, row and column: those that the template has, from a sheet that is there, and of a kind that rises not
 -- from the top one. Assumes nothing.
-use Prim.Native.Nat.{ℕ, _+_, _*_, _<_, _≤_}
+use Prim.Native.Nat.{ℕ, _<_, _≤_}
 use native.Mathlib.Omega.{arith}
-use mathlib.Core.Path.{_≡_, _∙_, ap}
+use mathlib.Core.Path.{_≡_}
 use mathlib.Core.Bool.{Bool, true, _&&_, _||_, not}
 use borrow.Author.Tests.{ltb-true, lt-ltb}
 use lib.Dec.{ltb}
-use lib.ListN.{getD}
-use Rattle.shape.specs.Choice.{if, whether}
-use Rattle.shape.specs.LawsIndex.{place-index}
-use Rattle.shape.specs.Nodes.{indexOf}
+use Rattle.shape.specs.Choice.{whether}
 use Rattle.shape.specs.Ranges.{halves, both}
-use Rattle.shape.specs.Sizes.{sheetsOf}
 use Rattle.shape.specs.declared.Place.{Place}
-use Rattle.steps.specs.Steps.{Table, step, namer, slotIn}
+use Rattle.steps.specs.Steps.{Table, step, namer}
 use Rattle.steps.specs.Suited.{Suited}
 use Rattle.steps.specs.declared.Step.{Step}
 use Rattle.layers.specs.Layers.{spans, joins-spans, spans-joins}
-use Rattle.window.specs.Window.{reach, size, present, place}
-use Rattle.window.specs.declared.Window.{Window}
+use Rattle.window.specs.Window.{reach}
 use Rattle.closure.specs.Edges.{edge, edge-there}
-use Rattle.flat.specs.Codes.{noEdge}
-use Rattle.shows.specs.Shows.{held}
 use Rattle.shows.specs.Named.{same-test}
 use Rattle.shows.specs.Sinks.{rises, goes-up, stays-level}
 
@@ -63,16 +56,3 @@ module _ (T : Table) (S : Suited T) (kind : ℕ) (m : kind < T .kinds) (h d ther
           (λ f.
           let e = stays-level T S kind m f in
           edge-there T h d there (namer T kind) q (spans-joins h d st there q (a .0) l (omega arith) (before-lt (omega arith) l)))
-
--- the growth of the edge of a kind that the node of a sheet, a row and a column names
-pub held-at : (T : Table) → Suited T → (w : Window) (kind j r c : ℕ) → kind < T .kinds → j < sheetsOf (w .shape .distance) → r < w .shape .height → c ≤ w .shape .distance
-    → let g = (j * w .shape .height + r) * (w .shape .distance + 1) + c in
-    held T w kind g ≡ if (spans (w .shape .height) (w .shape .distance) (step T (namer T kind)) r c && startsAt T (present w) kind j) (getD (w .growth) (slotIn (size w) kind g) 0) noEdge
-unfolding indexOf
-held-at T S w kind j r c m l x y =
-    let h = w .shape .height in
-    let d = w .shape .distance in
-    let q : Place = record { depth = j; row = r; column = c } in
-    let g = (j * h + r) * (d + 1) + c in
-    let p : place w g ≡ q = place-index h d (sheetsOf d) q (record { depth = l; row = x; column = y }) in
-    ap (λ (b : Bool). if b (getD (w .growth) (slotIn (size w) kind g) 0) noEdge) (ap (λ (z : Place). reach T h d (present w) (namer T kind) z .there) p ∙ there-is T S kind m h d (present w) q)

@@ -110,7 +110,3 @@ module _ (h d : ℕ) (r : Ranged h d) where
       ⊎-elim (λ e. lowered-inner t o m b e ∙ (let x = lt-ltb m (t .end) e in rw (p, q, x))) (λ e. lowered-past t o m b e ∙ (let x = le-ltb m (t .end) e in rw (p, q, x))) (order m (t .end)))
       (order m (t .detectors)))
       (order m (t .boundary))
-
-  -- a mark that is reset stays so
-  pub lowered-reset : loweredBy (thresholdsOf h d) 65535 ≡ 65535
-  lowered-reset = let o = thresholds-ordered in let a = o .inner in lowered-past (thresholdsOf h d) o 65535 (omega (arith, boundary-le h d (sheetsOf d) r refl)) (omega arith)

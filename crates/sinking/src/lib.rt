@@ -1,4 +1,4 @@
-// A round on the flat machine's arrays: each set moves into the other, one sheet lower.
+// A round on the flat machine's arrays: one set moves into the other, one sheet lower.
 use flat::MARGIN;
 use flat::PLANE;
 use flat::PLANES;
@@ -30,7 +30,7 @@ pub fn thresholds_of(shape: Shape) -> Thresholds
 {
     let h = shape.height as u16;
     let width = shape.distance as u16 - 1;
-    let s = shape::sheets(shape) as u16;
+    let s = extent::sheets(shape) as u16;
     Thresholds {
         boundary: 2 * h * s,
         detectors: 2 * h * (s + 1),
@@ -73,12 +73,20 @@ fn lower(m: u16, t: Thresholds) -> u16
     m + (by_sides(m, t) + by_inner(m, t))
 }
 
+// How many nodes stay in the window: those of the bottom sheet leave, and behind the nodes there is no edge.
+fn staying(z: Sizes) -> usize
+    requires { ⌜ z .sheet ≤ z .nodes ⌝ }
+    ensures { λ r. ⌜ r ≡ z .nodes - z .sheet ⌝ }
+{
+    z.nodes - z.sheet
+}
+
 pub fn sink_nodes(z: Sizes, old: &[u8; PLANE], nodes: &mut [u8; PLANE])
     requires { ⌜ (z .sheet ≤ z .nodes) × (z .nodes ≤ 3600) ⌝ }
     ensures { λ _. ⌜ now (nodes .exit) ≡ stored (512 + z .sheet) (λ i. settled (getD (now (old .entry)) (512 + i) 0)) (z .nodes - z .sheet) (now (nodes .entry)) ⌝ }
 {
     let down = MARGIN + z.sheet;
-    let rest = z.nodes - z.sheet;
+    let rest = staying(z);
     let mut i: usize = 0;
     while i < rest {
         nodes[down + i] = settle(old[MARGIN + i]);
@@ -92,7 +100,7 @@ pub fn sink_marks(z: Sizes, t: Thresholds, old: &[u16; PLANE], marks: &mut [u16;
     ensures { λ _. ⌜ now (marks .exit) ≡ stored (512 + z .sheet) (λ i. loweredBy t (getD (now (old .entry)) (512 + i) 0)) (z .nodes - z .sheet) (now (marks .entry)) ⌝ }
 {
     let down = MARGIN + z.sheet;
-    let rest = z.nodes - z.sheet;
+    let rest = staying(z);
     let mut i: usize = 0;
     while i < rest {
         marks[down + i] = lower(old[MARGIN + i], t);
@@ -107,7 +115,7 @@ pub fn sink_edges(first: usize, z: Sizes, old: &[u8; PLANES], edges: &mut [u8; P
 {
     let at = first + MARGIN;
     let down = at + z.sheet;
-    let rest = z.nodes - z.sheet;
+    let rest = staying(z);
     let mut i: usize = 0;
     while i < rest {
         edges[down + i] = old[at + i];

@@ -1,1 +1,2 @@
+-- what the arrays hold before the first round
 pub mod Starts

@@ -1,12 +1,10 @@
 -- WHAT THE MACHINE'S ARRAYS HOLD BEFORE THE FIRST ROUND: the fresh window, or a window that was unpacked with all its nodes live. Assumes nothing.
-use Prim.Native.Nat.{ℕ, zero, suc, _+_, _-_, _*_, _≤_, _<_}
+use Prim.Native.Nat.{ℕ, _+_, _-_, _≤_, _<_}
 use native.Mathlib.Nat.{zero-add, mul-le-mul-right}
 use native.Mathlib.Omega.{arith}
 use mathlib.Core.Path.{_≡_, refl, sym, _∙_, ap, subst}
 use mathlib.Core.Bool.{Bool, true, false}
 use mathlib.Core.List.{List}
-use borrow.Author.Tests.{eq-eqb}
-use lib.Dec.{eqb}
 use lib.ListN.{length, getD, replicate, length-replicate, getD-replicate}
 use Rattle.shape.specs.Sizes.{inRange, nodesOf, sheetsOf}
 use Rattle.shape.specs.declared.Shape.{Shape}
@@ -18,27 +16,24 @@ use Rattle.window.specs.Lists.{every}
 use Rattle.window.specs.Window.{isRest, size}
 use Rattle.window.specs.declared.Window.{Window}
 use Rattle.closure.specs.Closure.{Kept}
-use Rattle.flat.specs.Codes.{activeOf, defectOf, unrootedOf, pointerOf, growthOf, correctionOf, noEdge}
-use Rattle.flat.specs.Entries.{State, margin, plane, planes, entry, cell, within, stateOf, Long}
+use Rattle.flat.specs.Codes.{activeOf, defectOf, unrootedOf, pointerOf, growthOf, correctionOf}
+use Rattle.flat.specs.Entries.{plane, entry, cell, within, stateOf, Long}
 use Rattle.flat.specs.LawsEntries.{inside, within-by}
 use Rattle.flat.specs.Plan.{planOf, Safe}
-use Rattle.flat.specs.Step.{named, listAt, Places}
+use Rattle.flat.specs.Step.{named, liveAt}
 use Rattle.flat.specs.Stored.{stored, stored-at, length-stored}
 use Rattle.flat.specs.declared.Sizes.{Sizes}
 use Rattle.plan.specs.Filled.{Filled}
 use Rattle.plan.specs.Table.{sizesOf}
-use Rattle.queue.specs.Queue.{Empty}
 use Rattle.round_step.specs.Falls.{NoneOutside}
 use Rattle.shows.specs.Fresh.{Blank}
 use Rattle.shows.specs.Named.{list-named}
-use Rattle.shows.specs.Planned.{Planned}
 use Rattle.shows.specs.Tests.{riding-by}
-use Rattle.shows.specs.Turn.{live-all}
 use Rattle.shows.specs.Written.{written-shows}
 use Rattle.unpack.specs.Rides.{ridesIn}
 use Rattle.unpack.specs.Unpacked.{Unpacked}
-use Rattle.turn.specs.Held.{Held, fresh-held}
-use Rattle.turn.specs.Turned.{Scratch}
+use Rattle.shows.specs.Turn.{Held, live-all, fresh-held}
+use Rattle.turn.specs.Ready.{Scratch}
 
 -- as they are made
 
@@ -143,23 +138,23 @@ module _ (w : Window) (k : Kept base w) (rest : isRest (w .stage) ≡ true) (z :
   nodes-are : z .nodes ≡ size w
   nodes-are = ap (λ (y : Sizes). y .nodes) same
 
-  listed : (i : ℕ) → i < size w → listAt lists 9216 i ≡ entry i
+  listed : (i : ℕ) → i < size w → liveAt lists i ≡ entry i
   listed i l =
       let f = nodes-few in
       let e = nodes-are in
       ap (λ (m : List ℕ). getD m (9216 + i) 0) made
       ∙ stored-at 9216 (λ i. 512 + i) (z .nodes) (replicate {A = ℕ} 13824 0) 0 i (omega arith) (omega (arith, length-replicate {A = ℕ} 13824 0))
 
-  all : (g : ℕ) → g < size w → named (listAt lists 9216) (size w) (entry g) ≡ true
-  all g l = subst (λ (x : ℕ). named (listAt lists 9216) (size w) x ≡ true) (listed g l) (list-named (listAt lists 9216) (size w) g l)
+  all : (g : ℕ) → g < size w → named (liveAt lists) (size w) (entry g) ≡ true
+  all g l = subst (λ (x : ℕ). named (liveAt lists) (size w) x ≡ true) (listed g l) (list-named (liveAt lists) (size w) g l)
 
-  pub resting-starts : Held base (planOf z table) w (stateOf nodes marks edges) rides (z .nodes) (listAt lists 9216)
+  pub resting-starts : Held base (planOf z table) w (stateOf nodes marks edges) rides (z .nodes) (liveAt lists)
   resting-starts =
       let P = planOf (sizesOf base (w .shape .height) (w .shape .distance)) table in
       let shows = written-shows base w k nodes marks edges (U .written) in
       let tested : rides ≡ every (size w) (λ g. ridesIn (sizesOf base (w .shape .height) (w .shape .distance)) false nodes edges table (entry g)) =
       test ∙ ap (λ (y : Sizes). every (y .nodes) (λ g. ridesIn y false nodes edges table (entry g))) same in
-      subst (λ (y : Sizes). Held base (planOf y table) w (stateOf nodes marks edges) rides (y .nodes) (listAt lists 9216)) (sym same)
+      subst (λ (y : Sizes). Held base (planOf y table) w (stateOf nodes marks edges) rides (y .nodes) (liveAt lists)) (sym same)
       (record {
         kept = k;
         rest = rest;
@@ -167,5 +162,5 @@ module _ (w : Window) (k : Kept base w) (rest : isRest (w .stage) ≡ true) (z :
         shows = shows;
         places = λ i l. ap (within (size w)) (listed i l) ∙ within-by (size w) (entry i) (omega arith) (omega arith);
         riding = λ t. riding-by base suited-base w k P (F .planned) (stateOf nodes marks edges) shows (sym tested ∙ t);
-        live = λ t. live-all base w (size w) (listAt lists 9216) all;
+        live = λ t. live-all base w (size w) (liveAt lists) all;
       })

@@ -1,5 +1,6 @@
-// The machine's arrays before the first round of a stream: a fresh window's marks, and all nodes live.
+// The machine's arrays before the first round: a fresh window's marks; of a window that is handed over, all nodes listed as live.
 use flat::LISTS;
+use flat::LIVE;
 use flat::MARGIN;
 use flat::PLANE;
 use flat::Sizes;
@@ -8,9 +9,6 @@ ghost use mathlib.Core.Path.{_≡_};
 ghost use Prim.Native.Nat.{_+_, _≤_};
 ghost use lib.ListN.{getD};
 ghost use Rattle.flat.specs.Stored.{stored};
-
-// Where the list of live nodes begins.
-const LIVE: usize = 2 * PLANE;
 
 // Each node's mark is its own number.
 pub fn own_marks(marks: &mut [u16; PLANE], table: &[u16; TABLE])
@@ -23,7 +21,7 @@ pub fn own_marks(marks: &mut [u16; PLANE], table: &[u16; TABLE])
     }
 }
 
-// All nodes are live.
+// All nodes are listed as live.
 pub fn all_live(z: Sizes, lists: &mut [u16; LISTS])
     requires { ⌜ z .nodes ≤ 3600 ⌝ }
     ensures { λ _. ⌜ now (lists .exit) ≡ stored 9216 (λ i. 512 + i) (z .nodes) (now (lists .entry)) ⌝ }

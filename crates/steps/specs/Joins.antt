@@ -8,11 +8,10 @@ use Rattle.shape.specs.Choice.{if-true, if-false}
 use Rattle.shape.specs.Sizes.{boundary}
 use Rattle.shape.specs.Counting.{Inside}
 use Rattle.shape.specs.Ranges.{halves, both}
-use Rattle.steps.specs.Steps.{Table, stay, step, goes, fits, stays, beside, across, insideOf, bothDetectors, joined, near}
+use Rattle.steps.specs.Steps.{Table, stay, step, goes, fits, stays, beside, across, insideOf, bothDetectors, joined, near, At, Nowhere}
 use Rattle.shape.specs.declared.Place.{Place}
 use Rattle.steps.specs.declared.Shift.{Shift}
 use Rattle.steps.specs.declared.Step.{Step}
-use Rattle.shape.specs.declared.Found.the-variants.{At, Nowhere}
 
 -- a shift does not go below 0
 abbrev pub Clear : Shift → ℕ → Type 0

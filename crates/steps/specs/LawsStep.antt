@@ -9,20 +9,18 @@ use mathlib.Core.Logic.{_⊎_, inl, inr, ⊎-elim}
 use lib.Dec.{eqb}
 use borrow.Author.Tests.{eq-eqb}
 use Rattle.shape.specs.Choice.{if, if-true, if-false, tell}
-use Rattle.shape.specs.Sizes.{nodesOf, sheetsOf, boundary, maxNodes}
+use Rattle.shape.specs.Sizes.{nodesOf, sheetsOf, boundary}
 use Rattle.shape.specs.Ranges.{Ranged, nodes-of}
 use Rattle.shape.specs.Nodes.{indexOf}
 use Rattle.shape.specs.Counting.{Inside}
-use Rattle.shape.specs.LawsIndex.{index-lt, index-injective, window-le}
-use Rattle.steps.specs.Steps.{Table, step, goes, still, stays, alongRow, oneApart, beside, across, bothDetectors, joined, near, namingEnd, slotKind, slotNode, slot}
+use Rattle.shape.specs.LawsIndex.{index-lt, index-injective}
+use Rattle.steps.specs.Steps.{Table, step, goes, still, stays, alongRow, oneApart, beside, across, bothDetectors, joined, near, namingEnd, slotKind, slotNode, slot, Found, At}
 use Rattle.steps.specs.Joins.{Clear, Joins, joined-by, near-at, near-to}
 use Rattle.steps.specs.Proper.{swap, still-swap, Reversed, Points, Opposed, Proper, points}
 use Rattle.steps.specs.Slots.{slot-kind, slot-node, slot-within}
 use Rattle.shape.specs.declared.Place.{Place}
 use Rattle.steps.specs.declared.Shift.{Shift}
 use Rattle.steps.specs.declared.Step.{Step}
-use Rattle.shape.specs.declared.Found.{Found}
-use Rattle.shape.specs.declared.Found.the-variants.{At}
 
 -- A SHIFT AND BACK
 
@@ -173,9 +171,6 @@ module _ (T : Table) (P : Proper T) (h d k : ℕ) where
       unfolding slot
       slot-window =
           slot-within (nodesOf h d) (step T p .kind) (indexOf h d (namingEnd T p q)) index-low (T .kinds) (opposite .kind)
-
-      pub slot-max : slot T h d p q < T .kinds * maxNodes
-      slot-max = let a : nodesOf h d ≤ maxNodes = rw (nodes-of h d r) (window-le h d r) in omega (arith, slot-window, mul-le-mul-left (T .kinds) a)
 
   -- two directions along edges, and the same slot: the kind is the same, and the end that names the edge
   module _ (r : Ranged h d) (l : k ≤ sheetsOf d) (p p' : ℕ) (q q' t t' : Place) (e : near T h d k p q ≡ At t) (f : near T h d k p' q' ≡ At t') (s : slot T h d p q ≡ slot T h d p' q') where

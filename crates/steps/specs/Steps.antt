@@ -10,8 +10,6 @@ use Rattle.shape.specs.Nodes.{indexOf}
 use Rattle.shape.specs.declared.Place.{Place}
 use Rattle.steps.specs.declared.Shift.{Shift}
 use Rattle.steps.specs.declared.Step.{Step}
-use Rattle.shape.specs.declared.Found.{Found}
-use Rattle.shape.specs.declared.Found.the-variants.{At, Nowhere}
 
 -- The steps in scan order (pointer p is the pth, from 1), and how many kinds of edge there are
 pub record Table : Type 0 where
@@ -104,6 +102,11 @@ joined h d k st q =
     && fits (st .sheet) (q .depth) k
     && not (stays st)
     && (beside st || bothDetectors d st q)
+
+-- a place, or none
+pub data Found : Type 0 where
+  At : Place → Found
+  Nowhere : Found
 
 -- the place at the other end of the edge of pointer p
 unfoldable pub near : Table → ℕ → ℕ → ℕ → ℕ → Place → Found

@@ -1,10 +1,13 @@
 // A round's edges on the flat machine's arrays: every kind one sheet lower, with the new sheet's on top.
+use flat::FRESH;
 use flat::MARGIN;
 use flat::NO_EDGE;
 use flat::PLANE;
 use flat::PLANES;
+use flat::RISES;
 use flat::Sizes;
 use flat::TABLE;
+use shape::MAX_SHEET_NODES;
 ghost use mathlib.Core.Path.{_≡_};
 ghost use Prim.Native.Nat.{_*_, _≤_, _<_};
 ghost use lib.ListN.{length};
@@ -20,8 +23,8 @@ fn lay_kind(kind: usize, z: Sizes, second: bool, edges: &mut [u8; PLANES], table
 {
     let sheet = z.sheet;
     let at = kind * PLANE + MARGIN;
-    let from = PLANE + 240 * kind;
-    if table[160 + kind] != 1 {
+    let from = FRESH + MAX_SHEET_NODES * kind;
+    if table[RISES + kind] != 1 {
         top_sheet::lay_edges(at, sheet, from, edges, table);
         return;
     }

@@ -33,11 +33,11 @@ pub fn test_round(w: Window, bytes: &[u8], edges: usize, escapes: usize) -> Call
     if w.next == MAX_NEXT {
         return Called::Refused(Refusal::LastRound);
     }
-    let detectors = shape::detectors(w.shape);
+    let detectors = extent::detectors(w.shape);
     if bytes.len() != detectors {
         return Called::Refused(Refusal::Detectors);
     }
-    if edges != shape::layer_edges(w.shape) {
+    if edges != extent::layer_edges(w.shape) {
         return Called::Refused(Refusal::Edges);
     }
     if escapes != detectors {

@@ -1,2 +1,3 @@
-pub mod Held
+-- what the arrays hold before a turn, and what it leaves
+pub mod Ready
 pub mod Turned

@@ -13,12 +13,14 @@ use Rattle.window.specs.Round.{rounded}
 use Rattle.window.specs.Run.{stepsFrom, ran}
 use Rattle.window.specs.Window.{size, sheet}
 use Rattle.window.specs.declared.Window.{Window}
-use lib.ListN.{length, getD}
+use lib.ListN.{getD}
 use Rattle.flat.specs.Codes.{growthOf}
 use Rattle.flat.specs.Entries.{State, entry, within, stateOf, Long}
 use Rattle.flat.specs.LawsEntries.{inside, within-by}
 use Rattle.flat.specs.Plan.{Plan}
-use Rattle.flat.specs.Step.{named, Places}
+use Rattle.flat.specs.Step.{named, Places, liveAt}
+use Rattle.flat.specs.declared.Sizes.{Sizes}
+use Rattle.plan.specs.Table.{sizesOf}
 use Rattle.shows.specs.Grown.{Grows}
 use Rattle.shows.specs.Lively.{Enlists}
 use Rattle.shows.specs.Named.{named-same}
@@ -26,19 +28,22 @@ use Rattle.shows.specs.Pass.{Going}
 use Rattle.shows.specs.Planned.{Planned}
 use Rattle.shows.specs.Run.{Over, ran-round}
 use Rattle.shows.specs.Sinks.{secondThere, Sinks}
-use Rattle.queue.specs.Queue.{Empty, Inside}
+use Rattle.shows.specs.Turn.{Held, turn-kept, turn-shows, turn-going, turn-live}
+use Rattle.queue.specs.Queue.{Inside}
 use Rattle.round_step.specs.Falls.{NoneAbove}
 use Rattle.round_step.specs.LawsFalls.{none-above}
 use Rattle.run_steps.specs.Going.{Shown, Ended}
+use Rattle.run_steps.specs.Inside.{open-inside}
 use Rattle.work_list.specs.Work.{places-same}
-use Rattle.turn.specs.Held.{Held, turn-inside, turn-going, turn-live}
+use Rattle.turn.specs.Ready.{HeldAt, Scratch}
 
 -- THE WINDOW AFTER IT, and that it is held if it came to rest
-pub record Turned (P : Plan) (w : Window) (bytes : List ℕ) (budget : ℕ) (rides rest : Bool) (made : ℕ) (st : State) (count : ℕ) (list : ℕ → ℕ) : Type 0 where
+pub record Turned (P : Plan) (w : Window) (bytes : List ℕ) (rides rest : Bool) (made : ℕ) (st : State) (count : ℕ) (list : ℕ → ℕ) : Type 0 where
   pub window : Window
-  pub equals : ran base budget (rounded base w bytes) ≡ record { window = window; rest = rest; count = made }
+  pub equals : ran base 65536 (rounded base w bytes) ≡ record { window = window; rest = rest; count = made }
   pub shape : window .shape ≡ w .shape
   pub next : window .next ≡ w .next + 1
+  pub measured : window .measured ≡ w .measured
   pub held : rest ≡ true → Held base P window st rides count list
 
 -- after grow the nodes are as active as after the round, and bear the same defects
@@ -56,36 +61,48 @@ module _ (P : Plan) (n sheet : ℕ) (st₁ : State) (nodes marks edges : List �
         received = λ i l d. E .received i l (G .defect (entry i) (within-by n (entry i) (omega arith) (omega arith)) ∙ d);
       }
 
-module _ (P : Plan) (sh : Shape) (second : Bool) (bytes : List ℕ) (budget : ℕ) (rides : Bool) (st : State) (before : ℕ) (was : ℕ → ℕ) (st₁ : State)
+module _ (P : Plan) (sh : Shape) (next : ℕ) (second : Bool) (there : second ≡ secondThere (sh .distance) next) (bytes : List ℕ) (rides : Bool) (st : State) (before : ℕ) (was : ℕ → ℕ) (st₁ : State)
     (A₁ : Sinks base (sh .height) (sh .distance) P second bytes st st₁)
-    (n sheet' : ℕ) (en : n ≡ nodesOf (sh .height) (sh .distance)) (es : sheet' ≡ sh .height * (sh .distance + 1)) (fits : sheet' ≤ n)
-    (nodes marks edges : List ℕ) (A₂ : Grows P n sheet' st₁ (stateOf nodes marks edges)) where
+    (z : Sizes) (sizes : z ≡ sizesOf base (sh .height) (sh .distance)) (fits : z .sheet ≤ z .nodes)
+    (nodes marks edges : List ℕ) (A₂ : Grows P (z .nodes) (z .sheet) st₁ (stateOf nodes marks edges)) where
   abbrev st₂ : State
   st₂ = stateOf nodes marks edges
 
-  module _ (w : Window) (shape : w .shape ≡ sh) (there : second ≡ secondThere (w .shape .distance) (w .next)) (H : Held base P w st rides before was) where
-    size-is : n ≡ size w
-    size-is = en ∙ ap (λ (s : Shape). nodesOf (s .height) (s .distance)) (sym shape)
+  abbrev n : ℕ
+  n = z .nodes
 
-    sheet-is : sheet' ≡ sheet w
-    sheet-is = es ∙ ap (λ (s : Shape). s .height * (s .distance + 1)) (sym shape)
+  module _ (w : Window) (shape : w .shape ≡ sh) (next-is : w .next ≡ next) (H : Held base P w st rides before was) where
+    is-there : second ≡ secondThere (w .shape .distance) (w .next)
+    is-there = rw (shape, next-is) there
+
+    size-is : n ≡ size w
+    size-is = ap (λ (y : Sizes). y .nodes) sizes ∙ ap (λ (s : Shape). nodesOf (s .height) (s .distance)) (sym shape)
+
+    sheet-is : z .sheet ≡ sheet w
+    sheet-is = ap (λ (y : Sizes). y .sheet) sizes ∙ ap (λ (s : Shape). s .height * (s .distance + 1)) (sym shape)
 
     sinks : Sinks base (w .shape .height) (w .shape .distance) P (secondThere (w .shape .distance) (w .next)) bytes st st₁
-    sinks = subst (λ (b : Bool). Sinks base (w .shape .height) (w .shape .distance) P b bytes st st₁) there (subst (λ (s : Shape). Sinks base (s .height) (s .distance) P second bytes st st₁) (sym shape) A₁)
+    sinks = subst (λ (b : Bool). Sinks base (w .shape .height) (w .shape .distance) P b bytes st st₁) is-there (subst (λ (s : Shape). Sinks base (s .height) (s .distance) P second bytes st st₁) (sym shape) A₁)
 
     grows : Grows P (size w) (sheet w) st₁ st₂
     grows = subst (λ (m : ℕ). Grows P m (sheet w) st₁ st₂) size-is (subst (λ (m : ℕ). Grows P n m st₁ st₂) sheet-is A₂)
 
+    -- what lies over an open edge is a node
+    inside-size : (x : ℕ) → within (size w) x ≡ true → Inside P (λ e. growthOf (getD edges e 0)) x (P .dirs) (size w)
+    unfolding grown rounded
+    inside-size =
+        open-inside base suited-base P (grown base (rounded base w bytes)) st₂ (turn-kept base suited-base P w st rides before was H bytes st₁ sinks st₂ grows) (H .planned)
+        (turn-shows base suited-base P w st rides before was H bytes st₁ sinks st₂ grows)
+
     pub turned-inside : (x : ℕ) → within n x ≡ true → Inside P (λ e. growthOf (getD edges e 0)) x (P .dirs) n
     turned-inside x i =
-        subst (λ (m : ℕ). Inside P (λ e. growthOf (getD edges e 0)) x (P .dirs) m) (sym size-is)
-        (turn-inside base suited-base P w st rides before was H bytes st₁ sinks st₂ grows x (subst (λ (m : ℕ). within m x ≡ true) size-is i))
+        subst (λ (m : ℕ). Inside P (λ e. growthOf (getD edges e 0)) x (P .dirs) m) (sym size-is) (inside-size x (subst (λ (m : ℕ). within m x ≡ true) size-is i))
 
     pub was-places : Places n before was
     was-places = subst (λ (m : ℕ). Places m before was) (sym size-is) (H .places)
 
     -- WITH A WORK LIST
-    module _ (count : ℕ) (list : ℕ → ℕ) (places : Places n count list) (enlists : rides ≡ true → Enlists P n sheet' (stateOf nodes [] edges) (stateOf nodes [] edges) before was count list)
+    module _ (count : ℕ) (list : ℕ → ℕ) (places : Places n count list) (enlists : rides ≡ true → Enlists P n (z .sheet) (stateOf nodes [] edges) (stateOf nodes [] edges) before was count list)
         (all : rides ≡ false → (g : ℕ) → g < n → named list count (entry g) ≡ true) where
       listed : Places (size w) count list
       listed = subst (λ (m : ℕ). Places m count list) size-is places
@@ -94,7 +111,7 @@ module _ (P : Plan) (sh : Shape) (second : Bool) (bytes : List ℕ) (budget : �
       lively t =
           subst (λ (m : ℕ). Enlists P m (sheet w) st₁ st₂ before was count list) size-is
           (subst (λ (m : ℕ). Enlists P n m st₁ st₂ before was count list) sheet-is
-          (enlists-round P n sheet' st₁ nodes marks edges A₂ fits before was was-places count list (enlists t)))
+          (enlists-round P n (z .sheet) st₁ nodes marks edges A₂ fits before was was-places count list (enlists t)))
 
       every : rides ≡ false → (g : ℕ) → g < size w → named list count (entry g) ≡ true
       every f g l = all f g (rw size-is l)
@@ -111,8 +128,8 @@ module _ (P : Plan) (sh : Shape) (second : Bool) (bytes : List ℕ) (budget : �
       turned-shown = (grown base (rounded base w bytes), same-size, turned-going)
 
       -- and end; the list of live nodes stands elsewhere
-      module _ (rest : Bool) (made : ℕ) (st₃ : State) (E : Ended P n budget st₂ rides count list rest made st₃) (list' : ℕ → ℕ) (copied : (i : ℕ) → i < count → list' i ≡ list i) where
-        over : Over base P budget (stepsFrom base budget 0 (grown base (rounded base w bytes))) rides (λ g. named list count (entry g)) (grown base (rounded base w bytes)) rest made st₃
+      module _ (rest : Bool) (made : ℕ) (st₃ : State) (E : Ended P n 65536 st₂ rides count list rest made st₃) (list' : ℕ → ℕ) (copied : (i : ℕ) → i < count → list' i ≡ list i) where
+        over : Over base P 65536 (stepsFrom base 65536 0 (grown base (rounded base w bytes))) rides (λ g. named list count (entry g)) (grown base (rounded base w bytes)) rest made st₃
         over =
             E (grown base (rounded base w bytes)) same-size turned-going (λ g. named list count (entry g))
             (turn-live base suited-base P w st rides before was H bytes st₁ sinks st₂ grows count list listed lively every)
@@ -125,13 +142,18 @@ module _ (P : Plan) (sh : Shape) (second : Bool) (bytes : List ℕ) (budget : �
         unfolding grown rounded
         later = over .next
 
-        pub turned : Turned P w bytes budget rides rest made st₃ count list'
+        same-measured : over .window .measured ≡ w .measured
+        unfolding grown rounded
+        same-measured = over .measured
+
+        pub turned : Turned P w bytes rides rest made st₃ count list'
         turned =
             record {
               window = over .window;
-              equals = ran-round base budget w bytes ∙ over .equals;
+              equals = ran-round base 65536 w bytes ∙ over .equals;
               shape = same-shape;
               next = later;
+              measured = same-measured;
               held = λ r.
                   record {
                     kept = over .kept;
@@ -144,27 +166,16 @@ module _ (P : Plan) (sh : Shape) (second : Bool) (bytes : List ℕ) (budget : �
                   };
             }
 
--- WHAT THE ARRAYS HOLD BEFORE A TURN: some window of the shape, at rest
-
-abbrev pub Holds : Plan → Shape → Bool → State → Bool → ℕ → (ℕ → ℕ) → Type 0
-Holds P sh second st rides count list = (w : Window) × (w .shape ≡ sh) × (second ≡ secondThere (w .shape .distance) (w .next)) × Held base P w st rides count list
-
--- no node is queued
-pub record Scratch (lists : List ℕ) (queued : List Bool) (words : List ℕ) : Type 0 where
-  pub lists-long : length lists ≡ 13824
-  pub empty : Empty queued
-  pub words-long : length words ≡ 4608
-
--- AND AFTER IT, whichever window it was
-pub record Leaves (P : Plan) (sh : Shape) (second : Bool) (bytes : List ℕ) (st : State) (rides : Bool) (before : ℕ) (was : ℕ → ℕ) (rest : Bool) (made count : ℕ)
-    (nodes marks edges : List ℕ) (list : ℕ → ℕ) : Type 0 where
+-- WHAT IS LEFT IN THE ARRAYS, whichever window they held
+pub record TurnLeaves (P : Plan) (sh : Shape) (next : ℕ) (bytes : List ℕ) (st : State) (rides : Bool) (before : ℕ) (was : ℕ → ℕ) (rest : Bool) (made count : ℕ)
+    (nodes marks edges lists : List ℕ) (queued : List Bool) (words : List ℕ) : Type 0 where
   pub long : Long nodes marks edges
   pub few : count ≤ 4608
-  pub turns : (w : Window) → w .shape ≡ sh → second ≡ secondThere (w .shape .distance) (w .next) → Held base P w st rides before was
-      → Turned P w bytes 65536 rides rest made (stateOf nodes marks edges) count list
+  pub scratch : Scratch lists queued words
+  pub turns : (w : Window) → w .shape ≡ sh → w .next ≡ next → Held base P w st rides before was → Turned P w bytes rides rest made (stateOf nodes marks edges) count (liveAt lists)
 
--- no edge goes up from the top sheet
-pub holds-above : (P : Plan) (sh : Shape) (second : Bool) (nodes marks edges : List ℕ) (rides : Bool) (count : ℕ) (list : ℕ → ℕ) → Holds P sh second (stateOf nodes marks edges) rides count list
+-- no edge goes up from the top sheet of a window that is held
+pub held-above : (P : Plan) (sh : Shape) (next : ℕ) (nodes marks edges : List ℕ) (rides : Bool) (count : ℕ) (list : ℕ → ℕ) → HeldAt P sh next (stateOf nodes marks edges) rides count list
     → NoneAbove base (sh .height) (sh .distance) edges
-holds-above P sh second nodes marks edges rides count list H =
+held-above P sh next nodes marks edges rides count list H =
     subst (λ (s : Shape). NoneAbove base (s .height) (s .distance) edges) (H .1) (none-above base suited-base (H .0) (H .3 .kept) nodes marks edges (H .3 .shows))

@@ -6,25 +6,29 @@ use flat::Sizes;
 use flat::TABLE;
 use shape::Shape;
 ghost use mathlib.Core.Path.{_≡_};
-ghost use mathlib.Core.Bool.{true};
-ghost use Prim.Native.Nat.{_≤_};
+ghost use Prim.Native.Nat.{_<_};
 ghost use lib.ListN.{length};
-ghost use Rattle.shape.specs.Sizes.{inRange, detectorsOf};
-ghost use Rattle.steps.specs.Steps.{base};
-ghost use Rattle.flat.specs.Entries.{stateOf, Long};
+ghost use Rattle.shape.specs.Sizes.{detectorsOf};
+ghost use Rattle.window.specs.Window.{maxNext};
+ghost use Rattle.flat.specs.Entries.{stateOf};
 ghost use Rattle.flat.specs.Plan.{planOf};
-ghost use Rattle.flat.specs.Step.{listAt};
-ghost use Rattle.queue.specs.Queue.{Empty};
-ghost use Rattle.plan.specs.Table.{sizesOf};
-ghost use Rattle.plan.specs.Filled.{Filled};
-ghost use Rattle.round_step.specs.Falls.{NoneOutside};
-ghost use Rattle.turn.specs.Turned.{Holds, Scratch, Leaves};
+ghost use Rattle.flat.specs.Step.{liveAt};
+ghost use Rattle.turn.specs.Ready.{Ready};
+ghost use Rattle.turn.specs.Turned.{TurnLeaves};
 
 // Merging steps a round.
 pub const BUDGET: u32 = 65536;
 
+// What the arrays hold of a window besides its nodes and edges: its next round, whether its pointers ride on open edges, and how many nodes are
+// live.
+pub struct Held {
+    pub next: u32,
+    pub rides: bool,
+    pub live: usize,
+}
+
 // Whether the window came to rest, the steps made, and how many nodes are live.
-pub struct Ended {
+pub struct TurnGiven {
     pub rest: bool,
     pub count: u32,
     pub live: usize,
@@ -34,9 +38,7 @@ pub struct Ended {
 pub fn turn(
     shape: Shape,
     z: Sizes,
-    second: bool,
-    rides: bool,
-    live: usize,
+    held: Held,
     bytes: &[u8],
     old_nodes: &[u8; PLANE],
     old_marks: &[u16; PLANE],
@@ -48,19 +50,12 @@ pub fn turn(
     lists: &mut [u16; LISTS],
     queued: &mut [bool; PLANE],
     words: &mut [u32; PLANE],
-) -> Ended
-    requires { ⌜ inRange (shape .height) (shape .distance) ≡ true ⌝ }
-    requires { ⌜ z ≡ sizesOf base (shape .height) (shape .distance) ⌝ }
-    requires { ⌜ Filled base (shape .height) (shape .distance) (now table) ⌝ }
-    requires { ⌜ length (now bytes) ≡ detectorsOf (shape .height) (shape .distance) ⌝ }
-    requires { ⌜ Long (now nodes) (now marks) (now edges) ⌝ }
-    requires { ⌜ NoneOutside base (shape .height) (shape .distance) (now edges) ⌝ }
-    requires { ⌜ Scratch (now lists) (now queued) (now words) ⌝ }
-    requires { ⌜ live ≤ 4608 ⌝ }
-    requires { ⌜ Holds (planOf z (now table)) shape second (stateOf (now «old_nodes») (now «old_marks») (now «old_edges»)) rides live (listAt (now lists) 9216) ⌝ }
-    ensures { λ r. ⌜ Scratch (now (lists .exit)) (now (queued .exit)) (now (words .exit)) ⌝ }
-    ensures { λ r. ⌜ Leaves (planOf z (now (table .entry))) shape second (now (bytes .entry)) (stateOf (now («old_nodes» .entry)) (now («old_marks» .entry)) (now («old_edges» .entry))) rides live (listAt (now (lists .entry)) 9216) (r .rest) (r .count) (r .live) (now (nodes .exit)) (now (marks .exit)) (now (edges .exit)) (listAt (now (lists .exit)) 9216) ⌝ }
+) -> TurnGiven
+    requires { ⌜ Ready shape z (held .next) (held .rides) (held .live) (now «old_nodes») (now «old_marks») (now «old_edges») (now nodes) (now marks) (now edges) (now table) (now lists) (now queued) (now words) ⌝ }
+    requires { ⌜ (held .next < maxNext) × (length (now bytes) ≡ detectorsOf (shape .height) (shape .distance)) ⌝ }
+    ensures { λ r. ⌜ TurnLeaves (planOf z (now (table .entry))) shape (held .next) (now (bytes .entry)) (stateOf (now («old_nodes» .entry)) (now («old_marks» .entry)) (now («old_edges» .entry))) (held .rides) (held .live) (liveAt (now (lists .entry))) (r .rest) (r .count) (r .live) (now (nodes .exit)) (now (marks .exit)) (now (edges .exit)) (now (lists .exit)) (now (queued .exit)) (now (words .exit)) ⌝ }
 {
+    let second = round_step::second(shape, held.next);
     round_step::fall(
         shape,
         z,
@@ -75,10 +70,10 @@ pub fn turn(
         table,
     );
     grow_step::grow(z, nodes, marks, edges, table);
-    let listed = work_list::work_list(z, rides, live, nodes, edges, table, lists, queued);
+    let listed = work_list::work_list(z, held.rides, held.live, nodes, edges, table, lists, queued);
     let run = run_steps::run(
         z,
-        rides,
+        held.rides,
         BUDGET,
         listed,
         nodes,
@@ -89,7 +84,7 @@ pub fn turn(
         queued,
         words,
     );
-    Ended {
+    TurnGiven {
         rest: run.rest,
         count: run.count,
         live: listed,

@@ -1,10 +1,16 @@
 // A window as the machine's arrays.
+use flat::FALLS;
+use flat::FRESH;
 use flat::MARGIN;
+use flat::NO_EDGE;
 use flat::PLANE;
 use flat::PLANES;
 use flat::RESET;
+use flat::RISES;
+use flat::SLOTS;
 use flat::Sizes;
 use flat::TABLE;
+use shape::MAX_SHEET_NODES;
 use window::MAX_SLOTS;
 use window::Mark;
 use window::Node;
@@ -50,7 +56,7 @@ fn edge_by(fresh: u16, growth: u8, correction: bool) -> u8
     if fresh == 0 {
         return code;
     }
-    flat::NO_EDGE
+    NO_EDGE
 }
 
 // A sheet's edges of a kind: from the slot e on, to the entry x on.
@@ -88,13 +94,13 @@ fn edges_kind(
     ensures { λ _. ⌜ now (edges .exit) ≡ kindOn (z .nodes) (z .sheet) there (now (growth .entry)) (now (correction .entry)) (now (table .entry)) kind (now (edges .entry)) ⌝ }
 {
     let n = z.sheet;
-    let first = table[160 + kind] as usize;
+    let first = table[RISES + kind] as usize;
     let mut x = kind * PLANE + MARGIN + first * n;
     let mut e = z.nodes * kind + first * n;
     let mut k: usize = 0;
     while k + first < there {
         edges_sheet(
-            PLANE + 240 * kind,
+            FRESH + MAX_SHEET_NODES * kind,
             x,
             e,
             n,
@@ -169,7 +175,7 @@ fn rides_at(x: usize, p: usize, edges: &[u8; PLANES], table: &[u16; TABLE]) -> b
     if p == 0 {
         return true;
     }
-    let e = flat::over(x, table[32 + (p - 1)]);
+    let e = flat::over(x, table[SLOTS + (p - 1)]);
     flat::is_open(edges[e])
 }
 
@@ -191,7 +197,7 @@ pub fn rides(
     while g < n {
         let x = MARGIN + g;
         let p = pointed(nodes[x]);
-        let out = leaving & ((bottom <= x) & (table[128 + p] == 1));
+        let out = leaving & ((bottom <= x) & (table[FALLS + p] == 1));
         all = all & (out | rides_at(x, p, edges, table));
         g += 1;
     }

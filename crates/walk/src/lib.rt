@@ -37,5 +37,5 @@ pub fn number(shape: Shape, place: Place, g: usize) -> u16
     requires { ⌜ Stands (shape .height) (shape .distance) place g ⌝ }
     ensures { λ r. ⌜ r ≡ numberOf (shape .height) (shape .distance) place ⌝ }
 {
-    shape::number_of(shape, place) as u16
+    extent::number_of(shape, place) as u16
 }

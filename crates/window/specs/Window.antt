@@ -6,9 +6,8 @@ use lib.ListN.{getD}
 use Rattle.shape.specs.Choice.{if}
 use Rattle.shape.specs.Sizes.{sheetsOf, boundary, nodesOf, maxNodes}
 use Rattle.shape.specs.Nodes.{indexOf, placeAt}
-use Rattle.steps.specs.Steps.{Table, near, slot}
+use Rattle.steps.specs.Steps.{Table, near, slot, At, Nowhere}
 use Rattle.shape.specs.declared.Place.{Place}
-use Rattle.shape.specs.declared.Found.the-variants.{At, Nowhere}
 use Rattle.window.specs.declared.Mark.the-variants.{Reset, Root}
 use Rattle.window.specs.declared.Stage.{Stage}
 use Rattle.window.specs.declared.Stage.the-variants.{Rest, ToGrow, Merging}

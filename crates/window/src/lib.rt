@@ -144,7 +144,7 @@ pub fn is_merging(stage: Stage) -> bool
 fn supplied(shape: Shape, next: u32, k: usize) -> usize
     ensures { λ r. ⌜ r ≡ suppliedOf (shape .distance) next k ⌝ }
 {
-    let sheets = shape::sheets(shape);
+    let sheets = extent::sheets(shape);
     let rounds = next as usize;
     if rounds < sheets {
         return 0;
@@ -159,14 +159,14 @@ fn supplied(shape: Shape, next: u32, k: usize) -> usize
 pub fn present(shape: Shape, next: u32) -> usize
     ensures { λ r. ⌜ r ≡ suppliedOf (shape .distance) next (sheetsOf (shape .distance)) ⌝ }
 {
-    supplied(shape, next, shape::sheets(shape))
+    supplied(shape, next, extent::sheets(shape))
 }
 
 // The sheets that a pointer may lead to: those of the window, and in stage to grow the one that has just left.
 fn led_to(shape: Shape, stage: Stage) -> usize
     ensures { λ r. ⌜ r ≡ ledTo (shape .distance) stage ⌝ }
 {
-    let sheets = shape::sheets(shape);
+    let sheets = extent::sheets(shape);
     if is_to_grow(stage) {
         return sheets + 1;
     }

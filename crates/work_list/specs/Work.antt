@@ -12,7 +12,7 @@ use Rattle.refusal.specs.Laws.{undone}
 use Rattle.flat.specs.Codes.{activeOf, defectOf, growthOf}
 use Rattle.flat.specs.Entries.{State, entry, within, stateOf, overBy}
 use Rattle.flat.specs.Plan.{Plan}
-use Rattle.flat.specs.Step.{named, listAt, Places}
+use Rattle.flat.specs.Step.{named, listAt, Places, liveAt}
 use Rattle.flat.specs.Stored.{stored, stored-at, stored-before, length-stored}
 use Rattle.queue.specs.Queue.{Queue}
 use Rattle.queue.specs.LawsNamed.{extends-named}
@@ -26,15 +26,15 @@ pub record Work (P : Plan) (n sheet : ℕ) (rides : Bool) (live : ℕ) (nodes ed
   pub queue : Queue 0 count lists queued
   pub places : Places n count (listAt lists 0)
   pub kept : (i : ℕ) → 4608 ≤ i → getD lists i 0 ≡ getD old i 0
-  pub enlists : rides ≡ true → Enlists P n sheet (stateOf nodes [] edges) (stateOf nodes [] edges) live (listAt old 9216) count (listAt lists 0)
+  pub enlists : rides ≡ true → Enlists P n sheet (stateOf nodes [] edges) (stateOf nodes [] edges) live (liveAt old) count (listAt lists 0)
   pub all : rides ≡ false → (g : ℕ) → g < n → named (listAt lists 0) count (entry g) ≡ true
 
 -- and the list of live nodes is this one
 pub record Worked (P : Plan) (n sheet : ℕ) (rides : Bool) (live : ℕ) (nodes edges old : List ℕ) (count : ℕ) (lists : List ℕ) (queued : List Bool) : Type 0 where
   pub queue : Queue 0 count lists queued
   pub places : Places n count (listAt lists 0)
-  pub copied : (i : ℕ) → i < count → listAt lists 9216 i ≡ listAt lists 0 i
-  pub enlists : rides ≡ true → Enlists P n sheet (stateOf nodes [] edges) (stateOf nodes [] edges) live (listAt old 9216) count (listAt lists 0)
+  pub copied : (i : ℕ) → i < count → liveAt lists i ≡ listAt lists 0 i
+  pub enlists : rides ≡ true → Enlists P n sheet (stateOf nodes [] edges) (stateOf nodes [] edges) live (liveAt old) count (listAt lists 0)
   pub all : rides ≡ false → (g : ℕ) → g < n → named (listAt lists 0) count (entry g) ≡ true
 
 pub work-all : (P : Plan) (n sheet : ℕ) (rides : Bool) (live : ℕ) (nodes edges old : List ℕ) (count : ℕ) (lists : List ℕ) (queued : List Bool) → rides ≡ false
@@ -49,7 +49,7 @@ work-all P n sheet rides live nodes edges old count lists queued f E =
     }
 
 module _ (P : Plan) (n sheet : ℕ) (rides : Bool) (live : ℕ) (nodes edges old : List ℕ) (t : rides ≡ true)
-    (q₁ : ℕ) (lists₁ : List ℕ) (queued₁ : List Bool) (E₁ : Enlisted n 0 old (λ i. ltb (listAt old 9216 i + sheet) (512 + n)) (λ i. listAt old 9216 i + sheet) live q₁ lists₁ queued₁)
+    (q₁ : ℕ) (lists₁ : List ℕ) (queued₁ : List Bool) (E₁ : Enlisted n 0 old (λ i. ltb (liveAt old i + sheet) (512 + n)) (λ i. liveAt old i + sheet) live q₁ lists₁ queued₁)
     (q₂ : ℕ) (lists₂ : List ℕ) (queued₂ : List Bool)
     (E₂ : Spread P (λ e. growthOf (getD edges e 0)) n q₁ lists₁ (λ i. activeOf (getD nodes (listAt lists₁ 0 i) 0)) (listAt lists₁ 0) q₁ q₂ lists₂ queued₂)
     (q₃ : ℕ) (lists₃ : List ℕ) (queued₃ : List Bool) (E₃ : Enlisted n q₂ lists₂ (λ i. defectOf (getD nodes (512 + i) 0)) (λ i. 512 + i) sheet q₃ lists₃ queued₃) where
@@ -59,8 +59,8 @@ module _ (P : Plan) (n sheet : ℕ) (rides : Bool) (live : ℕ) (nodes edges old
   second : (x : ℕ) → named (listAt lists₁ 0) q₁ x ≡ true → named (listAt lists₃ 0) q₃ x ≡ true
   second x e = third x (extends-named 0 q₁ q₂ lists₁ lists₂ (E₂ .listing .extends) x e)
 
-  first : (i : ℕ) → i < live → listAt old 9216 i + sheet < 512 + n → named (listAt lists₁ 0) q₁ (listAt old 9216 i + sheet) ≡ true
-  first i l h = E₁ .names i l (lt-ltb (listAt old 9216 i + sheet) (512 + n) h)
+  first : (i : ℕ) → i < live → liveAt old i + sheet < 512 + n → named (listAt lists₁ 0) q₁ (liveAt old i + sheet) ≡ true
+  first i l h = E₁ .names i l (lt-ltb (liveAt old i + sheet) (512 + n) h)
 
   pub work-live : Work P n sheet rides live nodes edges old q₃ lists₃ queued₃
   work-live =
@@ -71,9 +71,9 @@ module _ (P : Plan) (n sheet : ℕ) (rides : Bool) (live : ℕ) (nodes edges old
         enlists = λ r.
             record {
               places = E₃ .listing .places;
-              sunken = λ i l h. second (listAt old 9216 i + sheet) (first i l h);
+              sunken = λ i l h. second (liveAt old i + sheet) (first i l h);
               opened = λ i k l m h a o.
-                  let f = named-found (listAt lists₁ 0) q₁ (listAt old 9216 i + sheet) (first i l h) in
+                  let f = named-found (listAt lists₁ 0) q₁ (liveAt old i + sheet) (first i l h) in
                   let e = f .2 in
                   subst (λ (x : ℕ). named (listAt lists₃ 0) q₃ (overBy x (P .off k)) ≡ true) e
                   (third _ (E₂ .near (f .0) k (f .1) m (ap (λ (x : ℕ). activeOf (getD nodes x 0)) e ∙ a) (ap (λ (x : ℕ). eqb (growthOf (getD edges (overBy x (P .slot k)) 0)) 2) e ∙ o)));
@@ -121,6 +121,6 @@ worked P n sheet rides live nodes edges old count lists queued W lists' e =
       copied = λ i l.
           let z : 0 + i ≡ i = omega arith in
           ap (λ (y : List ℕ). getD y (9216 + i) 0) e ∙ stored-at 9216 (λ i. getD lists i 0) count lists 0 i l (omega arith) ∙ ap (λ (j : ℕ). getD lists j 0) (sym z) ∙ sym (same i l);
-      enlists = λ t. enlists-same (listAt lists 0) (listAt lists' 0) count same P n sheet (stateOf nodes [] edges) (stateOf nodes [] edges) live (listAt old 9216) (W .enlists t);
+      enlists = λ t. enlists-same (listAt lists 0) (listAt lists' 0) count same P n sheet (stateOf nodes [] edges) (stateOf nodes [] edges) live (liveAt old) (W .enlists t);
       all = λ t. all-same (listAt lists 0) (listAt lists' 0) count same n (W .all t);
     }

@@ -11,7 +11,7 @@ ghost use lib.ListN.{length, getD};
 ghost use Rattle.flat.specs.Codes.{growthOf};
 ghost use Rattle.flat.specs.Entries.{within};
 ghost use Rattle.flat.specs.Plan.{planOf, Safe};
-ghost use Rattle.flat.specs.Step.{listAt, Places};
+ghost use Rattle.flat.specs.Step.{Places, liveAt};
 ghost use Rattle.queue.specs.Queue.{Empty, Inside};
 ghost use Rattle.work_list.specs.Work.{Work, Worked};
 
@@ -28,7 +28,7 @@ fn first_list(
 ) -> usize
     requires { ⌜ Safe z (now table) ⌝ }
     requires { ⌜ (live ≤ 4608) × (length (now lists) ≡ 13824) × Empty (now queued) ⌝ }
-    requires { ⌜ Places (z .nodes) live (listAt (now lists) 9216) ⌝ }
+    requires { ⌜ Places (z .nodes) live (liveAt (now lists)) ⌝ }
     requires { ⌜ ((x : ℕ) → within (z .nodes) x ≡ true → Inside (planOf z (now table)) (λ e. growthOf (getD (now edges) e 0)) x (z .dirs) (z .nodes)) ⌝ }
     ensures { λ r. ⌜ Work (planOf z (now (table .entry))) (z .nodes) (z .sheet) rides live (now (nodes .entry)) (now (edges .entry)) (now (lists .entry)) r (now (lists .exit)) (now (queued .exit)) ⌝ }
 {
@@ -53,7 +53,7 @@ pub fn work_list(
 ) -> usize
     requires { ⌜ Safe z (now table) ⌝ }
     requires { ⌜ (live ≤ 4608) × (length (now lists) ≡ 13824) × Empty (now queued) ⌝ }
-    requires { ⌜ Places (z .nodes) live (listAt (now lists) 9216) ⌝ }
+    requires { ⌜ Places (z .nodes) live (liveAt (now lists)) ⌝ }
     requires { ⌜ ((x : ℕ) → within (z .nodes) x ≡ true → Inside (planOf z (now table)) (λ e. growthOf (getD (now edges) e 0)) x (z .dirs) (z .nodes)) ⌝ }
     ensures { λ r. ⌜ Worked (planOf z (now (table .entry))) (z .nodes) (z .sheet) rides live (now (nodes .entry)) (now (edges .entry)) (now (lists .entry)) r (now (lists .exit)) (now (queued .exit)) ⌝ }
 {

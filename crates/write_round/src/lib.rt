@@ -128,8 +128,8 @@ fn write_lists(
     requires { ⌜ to ≤ length (now out) ⌝ }
     ensures { λ r. ⌜ writtenBuffered r (now (out .exit)) ≡ writeResult shape (asResult (committedIn (now (table .entry)) (now (edges .entry)) (layerEdgesOf (shape .height) (shape .distance))) (escapedIn z (shape .height) (shape .distance) (now (nodes .entry))) steps) (now (out .entry)) to ⌝ }
 {
-    let n = shape::layer_edges(shape);
-    let m = shape::detectors(shape);
+    let n = extent::layer_edges(shape);
+    let m = extent::detectors(shape);
     let mut committed = [0; MAX_LAYER_EDGES];
     let mut escaped = [0; MAX_DETECTORS];
     write_parts(

@@ -7,7 +7,7 @@ use mathlib.Core.List.{[]}
 use Rattle.flat.specs.Entries.{stateOf}
 use Rattle.flat.specs.Plan.{planOf}
 use Rattle.flat.specs.Step.{listAt}
-use Rattle.node_step.specs.Bounds.{place-bounds}
+use Rattle.flat.specs.Bounds.{place-bounds}
 use Rattle.edge_step.specs.Edges.{Done}
 use Rattle.edge_step.specs.Each.{each-map}
 use Rattle.edge_step.specs.LawsEdges.{turned-tells, done-none, done-next, flipped-all, flipped-none}

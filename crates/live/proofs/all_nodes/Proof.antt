@@ -1,11 +1,10 @@
 -- `live::all_nodes` meets its contract. Assumes nothing.
-use mathlib.Core.Path.{_≡_, refl, sym, _∙_, ap}
-use Prim.Native.Nat.{_≤_, _<_, _-_, _+_}
+use mathlib.Core.Path.{refl}
+use Prim.Native.Nat.{_≤_, _-_, _+_}
 use native.Mathlib.Omega.{arith}
 use borrow.Author.Needs.{needs}
 use mathlib.Core.Bool.{true}
 use Rattle.flat.specs.LawsEntries.{within-by}
-use Rattle.flat.specs.Step.{listAt}
 use Rattle.live.specs.Enlisted.{Enlisted, enlisted-none, enlisted-all, enlisted-next}
 use Rattle.queue.specs.LawsEmpty.{queue-none}
 use Rattle.live.proofs.all_nodes.Statement.{statement}

@@ -1,12 +1,11 @@
 -- `live::push_defects` meets its contract. Assumes nothing.
-use mathlib.Core.Path.{_≡_, refl, sym, _∙_, ap}
-use Prim.Native.Nat.{_≤_, _<_, _-_, _+_}
+use mathlib.Core.Path.{refl, sym, _∙_}
+use Prim.Native.Nat.{_≤_, _-_, _+_}
 use native.Mathlib.Omega.{arith}
 use borrow.Author.Needs.{needs}
 use lib.ListN.{getD}
 use Rattle.flat.specs.Codes.{defectOf}
 use Rattle.flat.specs.LawsEntries.{within-by}
-use Rattle.flat.specs.Step.{listAt}
 use Rattle.live.specs.Enlisted.{Enlisted, enlisted-none, enlisted-all, enlisted-past, enlisted-next}
 use Rattle.live.proofs.push_defects.Statement.{statement}
 use Rattle.live.proofs.push_defects.Tie as tie

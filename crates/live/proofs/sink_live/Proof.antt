@@ -1,5 +1,5 @@
 -- `live::sink_live` meets its contract. Assumes nothing.
-use mathlib.Core.Path.{_≡_, refl, sym, _∙_, ap}
+use mathlib.Core.Path.{_≡_, ap}
 use Prim.Native.Nat.{ℕ, _≤_, _<_, _-_, _+_}
 use native.Mathlib.Omega.{arith}
 use borrow.Author.Needs.{needs}
@@ -7,14 +7,14 @@ use borrow.Author.Tests.{le-ltb}
 use lib.Dec.{ltb}
 use lib.ListN.{getD}
 use Rattle.flat.specs.LawsEntries.{inside, within-by}
-use Rattle.flat.specs.Step.{listAt}
+use Rattle.flat.specs.Step.{liveAt}
 use Rattle.live.specs.Enlisted.{Enlisted, enlisted-none, enlisted-all, enlisted-past, enlisted-next}
 use Rattle.queue.specs.LawsEmpty.{queue-none}
 use Rattle.live.proofs.sink_live.Statement.{statement}
 use Rattle.live.proofs.sink_live.Tie as tie
 
 abbrev Inv-each : tie.InvT-each
-Inv-each z count lists₀ queued₀ q₀ i₀ lists queued q i = (i ≤ count) × Enlisted (z .nodes) 0 lists₀ (λ i. ltb (listAt lists₀ 9216 i + z .sheet) (512 + z .nodes)) (λ i. listAt lists₀ 9216 i + z .sheet) i q lists queued
+Inv-each z count lists₀ queued₀ q₀ i₀ lists queued q i = (i ≤ count) × Enlisted (z .nodes) 0 lists₀ (λ i. ltb (liveAt lists₀ i + z .sheet) (512 + z .nodes)) (λ i. liveAt lists₀ i + z .sheet) i q lists queued
 
 abbrev μ-each : tie.MeasureT-each
 μ-each z count lists₀ queued₀ q₀ i₀ lists queued q i = count - i
@@ -36,8 +36,8 @@ cast-x c =
     let l = c .before .before .each in
     let s = c .before .before .before in
     let k : l .i < s .args .count = c .before .each-test .taken in
-    let r : getD (l .lists) (9216 + l .i) 0 ≡ listAt (s .args .lists .now) 9216 (l .i) = l .inv .1 .listing .extends .behind (9216 + l .i) (omega arith) in
-    let w = inside (s .args .z .nodes) (listAt (s .args .lists .now) 9216 (l .i)) (s .pre .1 .1 .1 (l .i) k) in
+    let r : getD (l .lists) (9216 + l .i) 0 ≡ liveAt (s .args .lists .now) (l .i) = l .inv .1 .listing .extends .behind (9216 + l .i) (omega arith) in
+    let w = inside (s .args .z .nodes) (liveAt (s .args .lists .now) (l .i)) (s .pre .1 .1 .1 (l .i) k) in
     let lo = w .0 in
     let hi = w .1 in
     let z0 = s .pre .0 .0 in
@@ -49,8 +49,8 @@ add-x-2 c =
     let l = c .before .before .before .each in
     let s = c .before .before .before .before in
     let k : l .i < s .args .count = c .before .before .each-test .taken in
-    let r : getD (l .lists) (9216 + l .i) 0 ≡ listAt (s .args .lists .now) 9216 (l .i) = l .inv .1 .listing .extends .behind (9216 + l .i) (omega arith) in
-    let w = inside (s .args .z .nodes) (listAt (s .args .lists .now) 9216 (l .i)) (s .pre .1 .1 .1 (l .i) k) in
+    let r : getD (l .lists) (9216 + l .i) 0 ≡ liveAt (s .args .lists .now) (l .i) = l .inv .1 .listing .extends .behind (9216 + l .i) (omega arith) in
+    let w = inside (s .args .z .nodes) (liveAt (s .args .lists .now) (l .i)) (s .pre .1 .1 .1 (l .i) k) in
     let lo = w .0 in
     let hi = w .1 in
     let z0 = s .pre .0 .0 in
@@ -68,8 +68,8 @@ push-requires c κs =
     let l = c .before .before .before .before .before .before .before .each in
     let s = c .before .before .before .before .before .before .before .before in
     let k : l .i < s .args .count = c .before .before .before .before .before .before .each-test .taken in
-    let r : getD (l .lists) (9216 + l .i) 0 ≡ listAt (s .args .lists .now) 9216 (l .i) = l .inv .1 .listing .extends .behind (9216 + l .i) (omega arith) in
-    let w = inside (s .args .z .nodes) (listAt (s .args .lists .now) 9216 (l .i)) (s .pre .1 .1 .1 (l .i) k) in
+    let r : getD (l .lists) (9216 + l .i) 0 ≡ liveAt (s .args .lists .now) (l .i) = l .inv .1 .listing .extends .behind (9216 + l .i) (omega arith) in
+    let w = inside (s .args .z .nodes) (liveAt (s .args .lists .now) (l .i)) (s .pre .1 .1 .1 (l .i) k) in
     let lo = w .0 in
     let hi = w .1 in
     let z0 = s .pre .0 .0 in
@@ -85,14 +85,14 @@ each-again c =
     let l = c .before .before .before .before .before .before .before .before .each in
     let s = c .before .before .before .before .before .before .before .before .before in
     let k : l .i < s .args .count = c .before .before .before .before .before .before .before .each-test .taken in
-    let r : getD (l .lists) (9216 + l .i) 0 ≡ listAt (s .args .lists .now) 9216 (l .i) = l .inv .1 .listing .extends .behind (9216 + l .i) (omega arith) in
-    let w = inside (s .args .z .nodes) (listAt (s .args .lists .now) 9216 (l .i)) (s .pre .1 .1 .1 (l .i) k) in
+    let r : getD (l .lists) (9216 + l .i) 0 ≡ liveAt (s .args .lists .now) (l .i) = l .inv .1 .listing .extends .behind (9216 + l .i) (omega arith) in
+    let w = inside (s .args .z .nodes) (liveAt (s .args .lists .now) (l .i)) (s .pre .1 .1 .1 (l .i) k) in
     let lo = w .0 in
     let hi = w .1 in
     let z0 = s .pre .0 .0 in
     let z1 = s .pre .0 .1 in
     let t : getD (l .lists) (9216 + l .i) 0 + s .args .z .sheet < 512 + s .args .z .nodes = c .before .before .before .if1 .taken in
-    let q = within-by (s .args .z .nodes) (listAt (s .args .lists .now) 9216 (l .i) + s .args .z .sheet) (omega arith) (omega arith) in
+    let q = within-by (s .args .z .nodes) (liveAt (s .args .lists .now) (l .i) + s .args .z .sheet) (omega arith) (omega arith) in
     (omega arith, enlisted-next _ _ _ _ _ _ _ _ _ (l .inv .1) _ (ap (λ (v : ℕ). v + s .args .z .sheet) r) q _ _ _ (c .push .ensures))
 
 each-less-2 : tie.Need-each-less-2 Inv-each μ-each
@@ -103,14 +103,14 @@ each-again-2 c =
     let l = c .before .before .before .before .before .each in
     let s = c .before .before .before .before .before .before in
     let k : l .i < s .args .count = c .before .before .before .before .each-test .taken in
-    let r : getD (l .lists) (9216 + l .i) 0 ≡ listAt (s .args .lists .now) 9216 (l .i) = l .inv .1 .listing .extends .behind (9216 + l .i) (omega arith) in
-    let w = inside (s .args .z .nodes) (listAt (s .args .lists .now) 9216 (l .i)) (s .pre .1 .1 .1 (l .i) k) in
+    let r : getD (l .lists) (9216 + l .i) 0 ≡ liveAt (s .args .lists .now) (l .i) = l .inv .1 .listing .extends .behind (9216 + l .i) (omega arith) in
+    let w = inside (s .args .z .nodes) (liveAt (s .args .lists .now) (l .i)) (s .pre .1 .1 .1 (l .i) k) in
     let lo = w .0 in
     let hi = w .1 in
     let z0 = s .pre .0 .0 in
     let z1 = s .pre .0 .1 in
     let t : 512 + s .args .z .nodes ≤ getD (l .lists) (9216 + l .i) 0 + s .args .z .sheet = c .if1 .left in
-    let f = le-ltb (listAt (s .args .lists .now) 9216 (l .i) + s .args .z .sheet) (512 + s .args .z .nodes) (omega arith) in
+    let f = le-ltb (liveAt (s .args .lists .now) (l .i) + s .args .z .sheet) (512 + s .args .z .nodes) (omega arith) in
     (omega arith, enlisted-past _ _ _ _ _ _ _ _ _ (l .inv .1) f)
 
 returns : tie.Need-returns Inv-each μ-each

@@ -7,7 +7,7 @@ use Rattle.flat.specs.Plan.{planOf}
 use Rattle.flat.specs.Step.{listAt, busyIn}
 use Rattle.node_step.specs.After.{Tells}
 use Rattle.flat.specs.LawsEntries.{inside}
-use Rattle.node_step.specs.Bounds.{place-bounds}
+use Rattle.flat.specs.Bounds.{place-bounds}
 use Rattle.edge_step.specs.Each.{Each, each-none, each-next}
 use Rattle.merge_step.proofs.gather.Statement.{statement}
 use Rattle.merge_step.proofs.gather.Tie as tie

@@ -8,7 +8,7 @@ use Rattle.flat.specs.Codes.{growthOf}
 use Rattle.flat.specs.Plan.{planOf}
 use Rattle.flat.specs.Step.{listAt}
 use Rattle.flat.specs.LawsEntries.{inside}
-use Rattle.node_step.specs.Bounds.{place-bounds}
+use Rattle.flat.specs.Bounds.{place-bounds}
 use Rattle.node_step.specs.Words.{stirIn}
 use Rattle.queue.specs.LawsTrues.{queue-most}
 use Rattle.queue.specs.LawsEmpty.{queue-none}

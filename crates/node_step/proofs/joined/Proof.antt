@@ -1,18 +1,16 @@
+-- `node_step::joined` meets its contract. Assumes nothing.
 use borrow.Author.Needs.{needs}
 use Rattle.node_step.proofs.joined.Statement.{statement}
 use Rattle.node_step.proofs.joined.Tie as tie
 
-defect-requires : tie.Need-defect-requires
-defect-requires c κs = search needs
-
-pointer-requires : tie.Need-pointer-requires
-pointer-requires c κs = search needs
+sends-requires : tie.Need-sends-requires
+sends-requires c κs = search needs
 
 active-requires : tie.Need-active-requires
 active-requires c κs = search needs
 
-defect-requires-2 : tie.Need-defect-requires-2
-defect-requires-2 c κs = search needs
+defect-requires : tie.Need-defect-requires
+defect-requires c κs = search needs
 
 unrooted-requires : tie.Need-unrooted-requires
 unrooted-requires c κs = search needs
@@ -25,19 +23,20 @@ word-requires c κs = search needs
 
 returns : tie.Need-returns
 returns c =
+    let sends = c .before .before .before .before .before .sends .ensures in
+    let active = c .before .before .before .before .active .ensures in
     record {
-      word = rw (c .before .node .ensures, c .before .before .unrooted .ensures, c .before .before .before .defect2 .ensures, c .before .before .before .before .active .ensures, c .before .before .before .before .before .before .pointer .ensures, c .before .before .before .before .before .before .before .defect .ensures) at (c .word .ensures);
-      is-busy = rw (c .before .before .before .before .active .ensures, c .before .before .before .before .before .before .pointer .ensures, c .before .before .before .before .before .before .before .defect .ensures);
+      word = rw (c .before .node .ensures, c .before .before .unrooted .ensures, c .before .before .before .defect .ensures, active, sends) at (c .word .ensures);
+      is-busy = rw (active, sends);
     }
 
 pub joined-spec : {M : Type 1} → statement M
 joined-spec =
     tie.close
     (tie.spec
-    defect-requires
-    pointer-requires
+    sends-requires
     active-requires
-    defect-requires-2
+    defect-requires
     unrooted-requires
     node-requires
     word-requires

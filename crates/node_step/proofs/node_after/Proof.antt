@@ -1,3 +1,4 @@
+-- `node_step::node_after` meets its contract. Assumes nothing.
 use borrow.Author.Needs.{needs}
 use Rattle.node_step.proofs.node_after.Statement.{statement}
 use Rattle.node_step.proofs.node_after.Tie as tie

@@ -1,3 +1,4 @@
+-- `node_step::word` meets its contract. Assumes nothing.
 use native.Mathlib.Omega.{arith}
 use borrow.Author.Needs.{needs}
 use Rattle.node_step.specs.Words.{word-holds}

@@ -4,7 +4,7 @@ use borrow.Author.Needs.{needs}
 use lib.ListN.{getD}
 use Rattle.flat.specs.Codes.{growthOf}
 use Rattle.flat.specs.Plan.{planOf}
-use Rattle.node_step.specs.Bounds.{edge-low, node-low}
+use Rattle.flat.specs.Bounds.{edge-low, node-low}
 use Rattle.queue.specs.Queue.{Opened}
 use Rattle.queue.specs.LawsPush.{opened-first, opened-closed, opened-open, opened-all}
 use Rattle.queue.proofs.push_open.Statement.{statement}

@@ -2,7 +2,7 @@
 use Prim.Native.Nat.{ℕ, _≤_, _<_}
 use native.Mathlib.Omega.{arith}
 use Rattle.flat.specs.Step.{Places}
-use Rattle.node_step.specs.Bounds.{place-bounds}
+use Rattle.flat.specs.Bounds.{place-bounds}
 use Rattle.run_steps.specs.Going.{half-low}
 use Rattle.run_steps.proofs.run.Statement.{statement}
 use Rattle.run_steps.proofs.run.Tie as tie
@@ -14,7 +14,7 @@ steps-requires : tie.Need-steps-requires
 steps-requires c κs =
     let p = c .before .before .before .before .before .before .pre in
     let l = p .1 .0 in
-    (p .0, (record { of-nodes = l .0 .of-nodes; of-marks = l .0 .of-marks; of-edges = l .0 .of-edges; of-words = l .1 }, (p .1 .1 .0, p .1 .1 .1)))
+    (p .0, (record { long = l .0; of-words = l .1 }, (p .1 .1 .0, p .1 .1 .1)))
 
 unqueue-requires : tie.Need-unqueue-requires
 unqueue-requires c κs =
@@ -26,9 +26,9 @@ unqueue-requires c κs =
 returns : tie.Need-returns
 returns c =
     let s = c .before .before .before .steps .ensures in
-    let l = s .sized in
+    let l = s .all-long in
     record {
-      long = record { of-nodes = l .of-nodes; of-marks = l .of-marks; of-edges = l .of-edges };
+      long = l .long;
       words-long = l .of-words;
       lists-long = s .queue .long;
       empty = c .unqueue .ensures;

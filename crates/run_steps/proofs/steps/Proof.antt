@@ -1,7 +1,6 @@
 -- `run_steps::steps` meets its contract: between two steps some window is shown whose steps left give the whole. Assumes nothing.
 use mathlib.Core.Path.{refl}
-use mathlib.Core.List.{List}
-use Prim.Native.Nat.{ℕ, _≤_, _<_, _-_, _+_}
+use Prim.Native.Nat.{_≤_, _-_}
 use native.Mathlib.Omega.{arith}
 use borrow.Author.Needs.{needs}
 use borrow.Author.Tests.{not-true, not-false}
@@ -28,7 +27,7 @@ pass-requires c κs =
     let m = c .before .before .before .before .before .before .each .inv .1 in
     let h = half-low _ (m .half) in
     let q = queue-most (m .queue) in
-    ((omega arith, omega arith), (c .before .before .before .before .before .before .before .pre .0, (now-places _ _ _ _ _ _ _ _ (c .before .before .before .before .before .before .before .pre .1 .1 .1) _ _ _ _ _ _ _ _ _ (c .before .before .before .before .before .before .each .inv .1), m .sized)))
+    ((omega arith, omega arith), (c .before .before .before .before .before .before .before .pre .0, (now-places _ _ _ _ _ _ _ _ (c .before .before .before .before .before .before .before .pre .1 .1 .1) _ _ _ _ _ _ _ _ _ (c .before .before .before .before .before .before .each .inv .1), m .all-long)))
 
 add-made : tie.Need-add-made Inv-each μ-each
 add-made c = search needs

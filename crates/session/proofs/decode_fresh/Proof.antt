@@ -1,6 +1,6 @@
 -- `session::decode_fresh` meets its contract: the arrays that are made hold the fresh window. Assumes nothing.
-use mathlib.Core.Path.{_≡_, refl, sym, _∙_, ap}
-use Prim.Native.Nat.{ℕ, _≤_}
+use mathlib.Core.Path.{sym, _∙_}
+use Prim.Native.Nat.{ℕ}
 use native.Mathlib.Omega.{arith}
 use borrow.Author.Needs.{needs}
 use lib.ListN.{length-replicate}
@@ -31,28 +31,18 @@ rounds-on-requires c κs =
     let f = o .before .before .before in
     let z = f .before .before in
     let a = z .before .before .before in
-    let sh = a .args .shape in (
-      a .pre,
-      (
-        z .sizes .ensures,
-        (
-          f .fill .ensures,
-          (
-            (long-fresh sh (a .pre) _ (z .sizes .ensures) _ (f .fill .ensures) _ (o .own-marks .ensures), long-made),
-            (
-              none-made _ _ _ (f .fill .ensures),
-              (
-                scratch-made _ (length-replicate {A = ℕ} 13824 0),
-                (
-                  omega arith,
-                  (freshWindow base sh, fresh-shape sh, fresh-next sh ∙ sym (c .before .before .before .before .before .before .before .before .before .before .before .sheets .ensures), fresh-starts sh (a .pre) _ (z .sizes .ensures) _ (f .fill .ensures) _ (o .own-marks .ensures) _),
-                ),
-              ),
-            ),
-          ),
-        ),
-      ),
-    )
+    let sh = a .args .shape in
+    record {
+      range = a .pre;
+      sizes = z .sizes .ensures;
+      filled = f .fill .ensures;
+      long = long-fresh sh (a .pre) _ (z .sizes .ensures) _ (f .fill .ensures) _ (o .own-marks .ensures);
+      free = long-made;
+      outside = none-made _ _ _ (f .fill .ensures);
+      scratch = scratch-made _ (length-replicate {A = ℕ} 13824 0);
+      few = omega arith;
+      held = (freshWindow base sh, fresh-shape sh, fresh-next sh ∙ sym (c .before .before .before .before .before .before .before .before .before .before .before .sheets .ensures), fresh-starts sh (a .pre) _ (z .sizes .ensures) _ (f .fill .ensures) _ (o .own-marks .ensures) _);
+    }
 
 same-length : tie.Need-same-length
 same-length c = search needs

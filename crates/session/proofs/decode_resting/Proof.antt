@@ -1,7 +1,6 @@
 -- `session::decode_resting` meets its contract: the arrays hold the window, and the one reached is packed from its set. Assumes nothing.
 use mathlib.Core.Path.{_≡_, refl, sym, _∙_}
 use mathlib.Core.Bool.{true}
-use Prim.Native.Nat.{ℕ, _≤_}
 use native.Mathlib.Omega.{arith}
 use borrow.Author.Needs.{needs}
 use lib.ListN.{length-map}
@@ -55,28 +54,19 @@ rounds-on-requires c κs =
     let z = f .before .before in
     let a = z .before .before .before .before in
     let w = a .args .w in
-    let U = u .unpack .ensures in (
-      ranged a,
-      (
-        z .sizes .ensures,
-        (
-          f .fill .ensures,
-          (
-            (record { of-nodes = U .nodes-long; of-marks = U .marks-long; of-edges = U .edges-long }, long-made),
-            (
-              none-made _ _ _ (f .fill .ensures),
-              (
-                scratch-made _ (lists-long w (kept a) (a .pre .1) _ (z .sizes .ensures) _ (f .fill .ensures) _ _ _ U _ (t .rides .ensures) _ (l .all-live .ensures)),
-                (
-                  let n = safe-made _ _ _ (f .fill .ensures) _ (z .sizes .ensures) .nodes in omega arith,
-                  (w, refl, refl, resting-starts w (kept a) (a .pre .1) _ (z .sizes .ensures) _ (f .fill .ensures) _ _ _ (u .unpack .ensures) _ (t .rides .ensures) _ (l .all-live .ensures)),
-                ),
-              ),
-            ),
-          ),
-        ),
-      ),
-    )
+    let U = u .unpack .ensures in
+    let n = safe-made _ _ _ (f .fill .ensures) _ (z .sizes .ensures) .nodes in
+    record {
+      range = ranged a;
+      sizes = z .sizes .ensures;
+      filled = f .fill .ensures;
+      long = record { of-nodes = U .nodes-long; of-marks = U .marks-long; of-edges = U .edges-long };
+      free = long-made;
+      outside = none-made _ _ _ (f .fill .ensures);
+      scratch = scratch-made _ (lists-long w (kept a) (a .pre .1) _ (z .sizes .ensures) _ (f .fill .ensures) _ _ _ U _ (t .rides .ensures) _ (l .all-live .ensures));
+      few = omega arith;
+      held = (w, refl, refl, resting-starts w (kept a) (a .pre .1) _ (z .sizes .ensures) _ (f .fill .ensures) _ _ _ U _ (t .rides .ensures) _ (l .all-live .ensures));
+    }
 
 pack-requires : tie.Need-pack-requires
 pack-requires c κs = search needs

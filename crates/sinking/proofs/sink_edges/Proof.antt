@@ -19,8 +19,8 @@ add-at c = omega arith
 add-down : tie.Need-add-down Inv-loop μ-loop
 add-down c = omega arith
 
-sub-rest : tie.Need-sub-rest Inv-loop μ-loop
-sub-rest c = omega arith
+staying-requires : tie.Need-staying-requires Inv-loop μ-loop
+staying-requires c κs = omega arith
 
 loop-holds : tie.Need-loop-holds Inv-loop μ-loop
 loop-holds c = (omega arith, stored-none _ _ _)
@@ -47,7 +47,7 @@ loop-again : tie.Need-loop-again Inv-loop μ-loop
 loop-again c = let l = c .before .before .loop in (omega arith, stored-next _ _ _ _ _ _ (l .inv .1) refl)
 
 returns : tie.Need-returns Inv-loop μ-loop
-returns c = let l = c .before .loop in stored-done _ _ _ _ _ _ (l .inv .1) (l .inv .0) (c .loop-test .left)
+returns c = let l = c .before .loop in stored-done _ _ _ _ _ _ (l .inv .1) (omega arith) (omega arith)
 
 pub sink-edges-spec : {M : Type 1} → statement M
 sink-edges-spec =
@@ -57,7 +57,7 @@ sink-edges-spec =
     μ-loop
     add-at
     add-down
-    sub-rest
+    staying-requires
     loop-holds
     add-edges
     element-copy-out-edges

@@ -18,8 +18,8 @@ abbrev μ-loop : tie.MeasureT-loop
 add-down : tie.Need-add-down Inv-loop μ-loop
 add-down c = omega arith
 
-sub-rest : tie.Need-sub-rest Inv-loop μ-loop
-sub-rest c = omega arith
+staying-requires : tie.Need-staying-requires Inv-loop μ-loop
+staying-requires c κs = omega arith
 
 loop-holds : tie.Need-loop-holds Inv-loop μ-loop
 loop-holds c = (omega arith, stored-none _ _ _)
@@ -55,7 +55,7 @@ loop-again : tie.Need-loop-again Inv-loop μ-loop
 loop-again c = let l = c .before .before .before .loop in (omega arith, stored-next _ _ _ _ _ _ (l .inv .1) (c .lower .ensures))
 
 returns : tie.Need-returns Inv-loop μ-loop
-returns c = let l = c .before .loop in stored-done _ _ _ _ _ _ (l .inv .1) (l .inv .0) (c .loop-test .left)
+returns c = let l = c .before .loop in stored-done _ _ _ _ _ _ (l .inv .1) (omega arith) (omega arith)
 
 pub sink-marks-spec : {M : Type 1} → statement M
 sink-marks-spec =
@@ -64,7 +64,7 @@ sink-marks-spec =
     Inv-loop
     μ-loop
     add-down
-    sub-rest
+    staying-requires
     loop-holds
     add-lower
     mul-lower

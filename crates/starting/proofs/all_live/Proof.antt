@@ -1,11 +1,8 @@
 -- `starting::all_live` meets its contract. Assumes nothing.
-use mathlib.Core.Path.{_≡_, refl, ap, _∙_}
-use Prim.Native.Nat.{ℕ, _≤_, _<_, _-_, _+_}
-use native.Mathlib.Nat.{zero-add}
+use mathlib.Core.Path.{_≡_, refl}
+use Prim.Native.Nat.{_≤_, _-_, _+_}
 use native.Mathlib.Omega.{arith}
 use borrow.Author.Needs.{needs}
-use mathlib.Core.List.{List}
-use lib.ListN.{getD, set}
 use Rattle.flat.specs.Stored.{stored, stored-none, stored-next, stored-done}
 use Rattle.starting.proofs.all_live.Statement.{statement}
 use Rattle.starting.proofs.all_live.Tie as tie

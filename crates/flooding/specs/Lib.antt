@@ -1,0 +1,3 @@
+pub mod LawsFlood
+-- the turns of the loop over directions
+pub mod LawsScan

@@ -1,0 +1,1 @@
+// The law holds: theorems in specs/, no code.

@@ -1,0 +1,42 @@
+-- WHAT THE MACHINE'S ARRAYS HOLD BEFORE A ROUND: one set some window of the shape at rest, while the other set is free and no node is queued.
+-- Assumes nothing.
+use Prim.Native.Nat.{ℕ, _≤_}
+use mathlib.Core.Path.{_≡_}
+use mathlib.Core.Bool.{Bool, true}
+use mathlib.Core.List.{List}
+use lib.ListN.{length}
+use Rattle.shape.specs.Sizes.{inRange}
+use Rattle.shape.specs.declared.Shape.{Shape}
+use Rattle.steps.specs.Steps.{base}
+use Rattle.window.specs.declared.Window.{Window}
+use Rattle.flat.specs.Entries.{State, stateOf, Long}
+use Rattle.flat.specs.Plan.{Plan, planOf}
+use Rattle.flat.specs.Step.{liveAt}
+use Rattle.flat.specs.declared.Sizes.{Sizes}
+use Rattle.plan.specs.Table.{sizesOf}
+use Rattle.plan.specs.Filled.{Filled}
+use Rattle.queue.specs.Queue.{Empty}
+use Rattle.round_step.specs.Falls.{NoneOutside}
+use Rattle.shows.specs.Turn.{Held}
+
+-- some window of the shape, with its next round
+abbrev pub HeldAt : Plan → Shape → ℕ → State → Bool → ℕ → (ℕ → ℕ) → Type 0
+HeldAt P sh next st rides count list = (w : Window) × (w .shape ≡ sh) × (w .next ≡ next) × Held base P w st rides count list
+
+-- lists and words of their lengths, and no node queued
+pub record Scratch (lists : List ℕ) (queued : List Bool) (words : List ℕ) : Type 0 where
+  pub lists-long : length lists ≡ 13824
+  pub empty : Empty queued
+  pub words-long : length words ≡ 4608
+
+-- the table of the shape; the set that holds the window; the free set, with no edge in its margins; and the live nodes, so many
+pub record Ready (sh : Shape) (z : Sizes) (next : ℕ) (rides : Bool) (live : ℕ) (nodes marks edges free-nodes free-marks free-edges table lists : List ℕ) (queued : List Bool) (words : List ℕ) : Type 0 where
+  pub range : inRange (sh .height) (sh .distance) ≡ true
+  pub sizes : z ≡ sizesOf base (sh .height) (sh .distance)
+  pub filled : Filled base (sh .height) (sh .distance) table
+  pub long : Long nodes marks edges
+  pub free : Long free-nodes free-marks free-edges
+  pub outside : NoneOutside base (sh .height) (sh .distance) free-edges
+  pub scratch : Scratch lists queued words
+  pub few : live ≤ 4608
+  pub held : HeldAt (planOf z table) sh next (stateOf nodes marks edges) rides live (liveAt lists)
