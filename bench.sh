@@ -1,5 +1,6 @@
 #!/bin/bash
-# Builds the proved archive, and prints its decoder's times beside those of three decoders in Rust that are not proved.
+# Builds the proved archive, and prints its decoder's times for both models beside those of three decoders in Rust that are
+# not proved.
 set -u
 archive=exports
 

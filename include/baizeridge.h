@@ -4,7 +4,7 @@
  *   0           done; *place is the offset behind the record
  *   255         no bytes left where a record would start
  *   7, 8, 9     refused by that number of document 01; *place is the offset of the number's first byte
- *   any other   refused by that number of document 01
+ *   any other   refused by that number of document 01; 31, of document 02: neither model 0 nor model 1
  * Where nothing is said of *place it stays as it was. Unless 0 is returned, no buffer, no value and no lent offset is
  * changed. A writer stores the record's own bytes and no others.
  *
@@ -26,7 +26,7 @@
 #include <stdint.h>
 
 /* 384 KiB to decode, where the window's arrays stand in one frame, whatever the shape. Any other call takes less than
- * 1,500 bytes, measured. */
+ * 2,500 bytes, measured. */
 #define BAIZERIDGE_DECODE_STACK 393216
 #define BAIZERIDGE_STACK 32768
 
@@ -41,39 +41,39 @@ uint8_t baizeridge_read_list(const uint8_t *src, size_t src_len, size_t at, uint
 uint8_t baizeridge_write_list(const uint8_t *entries, size_t entries_len, uint8_t *out, size_t out_len, size_t at,
                               size_t *place);
 
-/* The header, a round of the input and a round of the result, read at an offset. Defects and escapes have a byte a
- * detector, edges a byte an edge of a layer. */
+/* The header, a round of the input and a round of the result, read at an offset. The model is 0 without the diagonals and
+ * 1 with them. Defects and escapes have a byte a detector, edges a byte an edge of a layer. */
 uint8_t baizeridge_read_header(const uint8_t *src, size_t src_len, size_t at, uint32_t *height, uint32_t *distance,
-                               size_t *place);
-uint8_t baizeridge_read_round(uint32_t height, uint32_t distance, const uint8_t *src, size_t src_len, size_t at,
-                              uint8_t *defects, size_t defects_len, size_t *place);
-uint8_t baizeridge_read_result(uint32_t height, uint32_t distance, const uint8_t *src, size_t src_len, size_t at,
-                               uint8_t *edges, size_t edges_len, uint8_t *escapes, size_t escapes_len, uint32_t *steps,
-                               size_t *place);
+                               uint32_t *model, size_t *place);
+uint8_t baizeridge_read_round(uint32_t height, uint32_t distance, uint32_t model, const uint8_t *src, size_t src_len,
+                              size_t at, uint8_t *defects, size_t defects_len, size_t *place);
+uint8_t baizeridge_read_result(uint32_t height, uint32_t distance, uint32_t model, const uint8_t *src, size_t src_len,
+                               size_t at, uint8_t *edges, size_t edges_len, uint8_t *escapes, size_t escapes_len,
+                               uint32_t *steps, size_t *place);
 
 /* The same with the offset lent: *at moves behind what was read, and stays where nothing was. */
 uint8_t baizeridge_take_header(const uint8_t *src, size_t src_len, size_t *at, uint32_t *height, uint32_t *distance,
-                               size_t *place);
-uint8_t baizeridge_take_round(uint32_t height, uint32_t distance, const uint8_t *src, size_t src_len, size_t *at,
-                              uint8_t *defects, size_t defects_len, size_t *place);
-uint8_t baizeridge_take_result(uint32_t height, uint32_t distance, const uint8_t *src, size_t src_len, size_t *at,
-                               uint8_t *edges, size_t edges_len, uint8_t *escapes, size_t escapes_len, uint32_t *steps,
-                               size_t *place);
+                               uint32_t *model, size_t *place);
+uint8_t baizeridge_take_round(uint32_t height, uint32_t distance, uint32_t model, const uint8_t *src, size_t src_len,
+                              size_t *at, uint8_t *defects, size_t defects_len, size_t *place);
+uint8_t baizeridge_take_result(uint32_t height, uint32_t distance, uint32_t model, const uint8_t *src, size_t src_len,
+                               size_t *at, uint8_t *edges, size_t edges_len, uint8_t *escapes, size_t escapes_len,
+                               uint32_t *steps, size_t *place);
 
 /* The same three, written from an offset on. */
-uint8_t baizeridge_write_header(uint32_t height, uint32_t distance, uint8_t *out, size_t out_len, size_t at,
-                                size_t *place);
-uint8_t baizeridge_write_round(uint32_t height, uint32_t distance, const uint8_t *defects, size_t defects_len,
-                               uint8_t *out, size_t out_len, size_t at, size_t *place);
-uint8_t baizeridge_write_result(uint32_t height, uint32_t distance, const uint8_t *edges, size_t edges_len,
-                                const uint8_t *escapes, size_t escapes_len, uint32_t steps, uint8_t *out,
-                                size_t out_len, size_t at, size_t *place);
+uint8_t baizeridge_write_header(uint32_t height, uint32_t distance, uint32_t model, uint8_t *out, size_t out_len,
+                                size_t at, size_t *place);
+uint8_t baizeridge_write_round(uint32_t height, uint32_t distance, uint32_t model, const uint8_t *defects,
+                               size_t defects_len, uint8_t *out, size_t out_len, size_t at, size_t *place);
+uint8_t baizeridge_write_result(uint32_t height, uint32_t distance, uint32_t model, const uint8_t *edges,
+                                size_t edges_len, const uint8_t *escapes, size_t escapes_len, uint32_t steps,
+                                uint8_t *out, size_t out_len, size_t at, size_t *place);
 
 /* A whole input stream and a whole result stream: the shape, and how many rounds there are; *place is the length. */
-uint8_t baizeridge_scan_input(const uint8_t *src, size_t src_len, uint32_t *height, uint32_t *distance, size_t *rounds,
-                              size_t *place);
+uint8_t baizeridge_scan_input(const uint8_t *src, size_t src_len, uint32_t *height, uint32_t *distance,
+                              uint32_t *model, size_t *rounds, size_t *place);
 uint8_t baizeridge_scan_results(const uint8_t *src, size_t src_len, uint32_t *height, uint32_t *distance,
-                                size_t *rounds, size_t *place);
+                                uint32_t *model, size_t *rounds, size_t *place);
 
 /* Decodes a whole input stream into a result stream at the front of out. Returned is 0 where it was decoded to the
  * input's end, 254 where a round ended spent, else the refusal's number (11: out has no room for the next record). In
@@ -84,9 +84,9 @@ uint8_t baizeridge_decode(const uint8_t *src, size_t src_len, uint8_t *out, size
                           size_t *place);
 
 /* A shape's nodes in a window, detectors of a sheet, and edges of a layer; 0 where the shape is refused. */
-size_t baizeridge_nodes(uint32_t height, uint32_t distance);
-size_t baizeridge_detectors(uint32_t height, uint32_t distance);
-size_t baizeridge_layer_edges(uint32_t height, uint32_t distance);
+size_t baizeridge_nodes(uint32_t height, uint32_t distance, uint32_t model);
+size_t baizeridge_detectors(uint32_t height, uint32_t distance, uint32_t model);
+size_t baizeridge_layer_edges(uint32_t height, uint32_t distance, uint32_t model);
 
 #ifdef __cplusplus
 }

@@ -6,11 +6,11 @@ use std::io::Read;
 
 /// The ends of an edge, by row and column.
 fn place(span: &Span, width: usize) -> String {
-    let (row, column) = (span.near / width, span.near % width);
-    match span.kind {
-        0 => format!("row {row}, columns {column} and {}", column + 1),
-        1 => format!("column {column}, rows {row} and {}", row + 1),
-        _ => format!("row {row}, column {column}, to the round after"),
+    let [near, far] = [span.near, span.far].map(|node| format!("row {}, column {}", node / width, node % width));
+    match (span.above, span.near == span.far) {
+        (false, _) => format!("{near}, to {far}"),
+        (true, true) => format!("{near}, to the round after"),
+        (true, false) => format!("{near}, to {far} of the round after"),
     }
 }
 
@@ -21,13 +21,13 @@ fn set(bytes: &[u8]) -> impl Iterator<Item = usize> + '_ {
 fn main() -> Result<(), Stop> {
     let mut stream = vec![];
     std::io::stdin().read_to_end(&mut stream).expect("standard input can be read");
-    let Done((height, distance), mut at) = read_header(&stream, 0)?;
-    let shape = Shape::new(height, distance)?;
+    let Done(name, mut at) = read_header(&stream, 0)?;
+    let shape = Shape::new(name)?;
     let sheet = Sheet::new(shape);
-    println!("{height} by {distance}, a window of {} rounds", sheet.sheets());
+    println!("{} by {}, model {}, a window of {} rounds", shape.height, shape.distance, shape.model, sheet.sheets());
     let (mut edges, mut escapes) = (vec![0; shape.edges()], vec![0; shape.detectors()]);
     for left in 0.. {
-        match read_result(height, distance, &stream, at, [&mut edges, &mut escapes]) {
+        match read_result(name, &stream, at, [&mut edges, &mut escapes]) {
             Ok(Done(steps, next)) => {
                 println!("round {} received, {steps} steps", left + sheet.sheets());
                 for edge in set(&edges) {

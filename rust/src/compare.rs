@@ -2,7 +2,7 @@
 //! The answers must be equal, and so must every byte of the buffers and of the guards around them.
 
 use crate::decoding::Decoded;
-use crate::streams::{Answer, Done};
+use crate::streams::{Answer, Done, Name};
 use crate::{proved, streams};
 use std::fmt::Debug;
 
@@ -105,7 +105,7 @@ pub fn write_list(bits: &[u8], room: usize, at: usize) -> (Answer<()>, Vec<u8>) 
     (answer, out)
 }
 
-pub fn read_header(src: &[u8], at: usize) -> Answer<(u32, u32)> {
+pub fn read_header(src: &[u8], at: usize) -> Answer<Name> {
     reading(
         at,
         [],
@@ -117,66 +117,66 @@ pub fn read_header(src: &[u8], at: usize) -> Answer<(u32, u32)> {
     .0
 }
 
-pub fn write_header(h: u32, d: u32, room: usize, at: usize) -> (Answer<()>, Vec<u8>) {
+pub fn write_header(name: Name, room: usize, at: usize) -> (Answer<()>, Vec<u8>) {
     let (answer, [out]) = both(
         [room],
-        || format!("write_header {h} by {d} into {room} at {at}"),
-        |[out]| streams::write_header(h, d, out, at),
-        |[out]| proved::write_header(h, d, out, at),
+        || format!("write_header {name:?} into {room} at {at}"),
+        |[out]| streams::write_header(name, out, at),
+        |[out]| proved::write_header(name, out, at),
     );
     (answer, out)
 }
 
-pub fn read_round(h: u32, d: u32, src: &[u8], at: usize, size: usize) -> (Answer<()>, Vec<u8>) {
+pub fn read_round(name: Name, src: &[u8], at: usize, size: usize) -> (Answer<()>, Vec<u8>) {
     let (answer, [defects]) = reading(
         at,
         [size],
-        || format!("read_round {h} by {d} {src:02x?} at {at} into {size}"),
-        |[out]| streams::read_round(h, d, src, at, out),
-        |[out]| proved::read_round(h, d, src, at, out),
-        |at, [out]| proved::take_round(h, d, src, at, out),
+        || format!("read_round {name:?} {src:02x?} at {at} into {size}"),
+        |[out]| streams::read_round(name, src, at, out),
+        |[out]| proved::read_round(name, src, at, out),
+        |at, [out]| proved::take_round(name, src, at, out),
     );
     (answer, defects)
 }
 
-pub fn write_round(h: u32, d: u32, defects: &[u8], room: usize, at: usize) -> (Answer<()>, Vec<u8>) {
+pub fn write_round(name: Name, defects: &[u8], room: usize, at: usize) -> (Answer<()>, Vec<u8>) {
     let (answer, [out]) = both(
         [room],
-        || format!("write_round {h} by {d} {defects:?} into {room} at {at}"),
-        |[out]| streams::write_round(h, d, defects, out, at),
-        |[out]| proved::write_round(h, d, defects, out, at),
+        || format!("write_round {name:?} {defects:?} into {room} at {at}"),
+        |[out]| streams::write_round(name, defects, out, at),
+        |[out]| proved::write_round(name, defects, out, at),
     );
     (answer, out)
 }
 
 /// `sizes` are those of the edge buffer and of the escape buffer, which come back in that order.
-pub fn read_result(h: u32, d: u32, src: &[u8], at: usize, sizes: [usize; 2]) -> (Answer<u32>, [Vec<u8>; 2]) {
+pub fn read_result(name: Name, src: &[u8], at: usize, sizes: [usize; 2]) -> (Answer<u32>, [Vec<u8>; 2]) {
     reading(
         at,
         sizes,
-        || format!("read_result {h} by {d} {src:02x?} at {at} into {sizes:?}"),
-        |lists| streams::read_result(h, d, src, at, lists),
-        |lists| proved::read_result(h, d, src, at, lists),
-        |at, lists| proved::take_result(h, d, src, at, lists),
+        || format!("read_result {name:?} {src:02x?} at {at} into {sizes:?}"),
+        |lists| streams::read_result(name, src, at, lists),
+        |lists| proved::read_result(name, src, at, lists),
+        |at, lists| proved::take_result(name, src, at, lists),
     )
 }
 
 /// `lists` are the committed edges and the escaped defects.
-pub fn write_result(h: u32, d: u32, lists: [&[u8]; 2], steps: u32, room: usize, at: usize) -> (Answer<()>, Vec<u8>) {
+pub fn write_result(name: Name, lists: [&[u8]; 2], steps: u32, room: usize, at: usize) -> (Answer<()>, Vec<u8>) {
     let (answer, [out]) = both(
         [room],
-        || format!("write_result {h} by {d} {lists:?} {steps} into {room} at {at}"),
-        |[out]| streams::write_result(h, d, lists, steps, out, at),
-        |[out]| proved::write_result(h, d, lists, steps, out, at),
+        || format!("write_result {name:?} {lists:?} {steps} into {room} at {at}"),
+        |[out]| streams::write_result(name, lists, steps, out, at),
+        |[out]| proved::write_result(name, lists, steps, out, at),
     );
     (answer, out)
 }
 
-pub fn scan_input(src: &[u8]) -> Answer<(u32, u32, usize)> {
+pub fn scan_input(src: &[u8]) -> Answer<(Name, usize)> {
     both([], || format!("scan_input {src:02x?}"), |[]| streams::scan_input(src), |[]| proved::scan_input(src)).0
 }
 
-pub fn scan_results(src: &[u8]) -> Answer<(u32, u32, usize)> {
+pub fn scan_results(src: &[u8]) -> Answer<(Name, usize)> {
     both([], || format!("scan_results {src:02x?}"), |[]| streams::scan_results(src), |[]| proved::scan_results(src)).0
 }
 

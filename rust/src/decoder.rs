@@ -2,21 +2,11 @@
 //! takes the last one out and puts a new one in front. A mark is a root by its round, so falling leaves it as it is.
 
 use crate::decoding::{self, number_of, Decoded, Decoder, Ran, BUDGET};
-use crate::streams::Shape;
+use crate::steps::{joined, own_ways, Way, BACK, KIND, STEPS, WAYS};
+use crate::streams::{Name, Shape};
 use std::cmp::Reverse;
 use std::collections::VecDeque;
 use std::sync::Arc;
-
-/// The directions, in the scan order.
-#[derive(Debug, Clone, Copy, PartialEq, Eq, PartialOrd, Ord)]
-pub enum Way {
-    North,
-    West,
-    East,
-    South,
-    Down,
-    Up,
-}
 
 #[derive(Debug, Clone, Copy, PartialEq, Eq)]
 pub enum Stage {
@@ -56,7 +46,7 @@ pub struct Layer {
     pub edges: Vec<Edge>,
 }
 
-/// An edge of a layer: its west, north or lower end, and its other end, which stands one sheet above for a time edge.
+/// An edge of a layer: its west, north or lower end, and its other end, which may stand one sheet above.
 #[derive(Debug, Clone, Copy)]
 pub struct Span {
     pub kind: usize,
@@ -68,7 +58,6 @@ pub struct Span {
 /// A node's edge in one direction: the sheets down to its other end and to the layer that has it.
 #[derive(Debug, Clone, Copy)]
 struct Link {
-    way: Way,
     node: usize,
     sheets: isize,
     edge: usize,
@@ -80,33 +69,28 @@ struct Link {
 pub struct Sheet {
     pub shape: Shape,
     pub spans: Vec<Span>,
-    links: Vec<Vec<Link>>,
+    /// Of each node, by direction.
+    links: Vec<[Option<Link>; WAYS]>,
 }
 
 impl Sheet {
     pub fn new(shape: Shape) -> Sheet {
-        let (h, d) = (shape.height, shape.distance);
-        let node = |row: usize, column: usize| row * (d + 1) + column;
+        let width = shape.distance + 1;
         let mut spans = vec![];
-        for row in 0..h {
-            spans.extend((0..d).map(|c| Span { kind: 0, near: node(row, c), far: node(row, c + 1), above: false }));
-        }
-        for row in 1..h {
-            spans.extend((1..d).map(|c| Span { kind: 1, near: node(row - 1, c), far: node(row, c), above: false }));
-        }
-        for row in 0..h {
-            spans.extend((1..d).map(|c| Span { kind: 2, near: node(row, c), far: node(row, c), above: true }));
+        let mut links = vec![[None; WAYS]; shape.height * width];
+        for way in own_ways(shape.model) {
+            let there = usize::from(way);
+            let (kind, [_, _, sheets]) = (KIND[there], STEPS[there]);
+            for near in 0..links.len() {
+                let Some([row, column]) = joined(shape, [near / width, near % width], way) else { continue };
+                let (far, edge) = (row * width + column, spans.len());
+                spans.push(Span { kind, near, far, above: sheets < 0 });
+                links[near][there] = Some(Link { node: far, sheets, edge, layers: 0 });
+                let back = Link { node: near, sheets: -sheets, edge, layers: -sheets };
+                links[far][usize::from(BACK[there])] = Some(back);
+            }
         }
         assert_eq!(spans.len(), shape.edges());
-
-        let mut links = vec![vec![]; h * (d + 1)];
-        for (edge, span) in spans.iter().enumerate() {
-            let (there, back) = [(Way::East, Way::West), (Way::South, Way::North), (Way::Up, Way::Down)][span.kind];
-            let up = isize::from(span.above);
-            links[span.near].push(Link { way: there, node: span.far, sheets: -up, edge, layers: 0 });
-            links[span.far].push(Link { way: back, node: span.near, sheets: up, edge, layers: up });
-        }
-        links.iter_mut().for_each(|of_node| of_node.sort_by_key(|link| link.way));
         Sheet { shape, spans, links }
     }
 
@@ -179,8 +163,8 @@ fn refuse(bad: bool, number: u8) -> Result<(), u8> {
 
 // Every window here is well-formed: 21 is for whoever reads one from elsewhere.
 impl Window {
-    pub fn fresh(height: u32, distance: u32) -> Result<Window, u8> {
-        Ok(Window::new(Shape::new(height, distance).map_err(number_of)?))
+    pub fn fresh(name: Name) -> Result<Window, u8> {
+        Ok(Window::new(Shape::new(name).map_err(number_of)?))
     }
 
     fn new(shape: Shape) -> Window {
@@ -230,20 +214,33 @@ impl Window {
         (0..self.layers.len()).flat_map(|depth| (0..self.sheet.nodes()).map(move |place| (depth, place)))
     }
 
-    /// A node's edges, in the scan order: the direction, the node there, and the edge. None leads to an absent round, or
-    /// from one.
+    /// The node at the other end of an edge, and the edge. None leads to an absent round, or from one.
+    fn follow(&self, depth: usize, link: &Link) -> Option<([usize; 2], [usize; 2])> {
+        let there = depth.checked_add_signed(link.sheets).filter(|&there| there <= self.bottom())?;
+        let layer = depth.checked_add_signed(link.layers)?;
+        (!self.absent(depth.max(there))).then_some(([there, link.node], [layer, link.edge]))
+    }
+
+    /// A node's edges, in the scan order: the direction, the node there, and the edge.
     pub fn links(&self, depth: usize, node: usize) -> impl Iterator<Item = (Way, [usize; 2], [usize; 2])> + '_ {
-        self.sheet.links[node].iter().filter_map(move |link| {
-            let there = depth.checked_add_signed(link.sheets).filter(|&there| there <= self.bottom())?;
-            let layer = depth.checked_add_signed(link.layers)?;
-            (!self.absent(depth.max(there))).then_some((link.way, [there, link.node], [layer, link.edge]))
+        (0..).zip(&self.sheet.links[node]).filter_map(move |(way, link)| {
+            let (there, edge) = self.follow(depth, link.as_ref()?)?;
+            Some((way, there, edge))
         })
     }
 
     /// The node and the edge in the direction of a pointer.
     pub fn link(&self, depth: usize, place: usize, pointer: Way) -> ([usize; 2], [usize; 2]) {
-        let mut links = self.links(depth, place).filter(|&(way, ..)| way == pointer);
-        links.next().map(|(_, there, edge)| (there, edge)).expect("pointers go along edges")
+        let link = self.sheet.links[place][usize::from(pointer)].as_ref();
+        link.and_then(|link| self.follow(depth, link)).expect("pointers go along edges")
+    }
+
+    /// Whether a node's pointer may be this direction: along an edge; or, in stage to grow, from the bottom along one to the
+    /// sheet that left, unless its round was absent.
+    pub fn allows(&self, depth: usize, place: usize, pointer: Way) -> bool {
+        let link = self.sheet.links[place].get(usize::from(pointer)).and_then(Option::as_ref);
+        let lost = self.stage == Stage::ToGrow && depth == self.bottom() && !self.absent(depth + 1);
+        link.is_some_and(|link| self.follow(depth, link).is_some() || lost && link.sheets > 0)
     }
 
     /// A round of defects.
@@ -307,9 +304,11 @@ impl Window {
             *halves = (*halves + 1).min(2);
         }
         let bottom = self.bottom();
-        for node in self.layers[bottom].nodes.iter_mut().filter(|node| node.pointer == Some(Way::Down)) {
-            node.pointer = None;
-            node.mark = None;
+        for node in &mut self.layers[bottom].nodes {
+            if node.pointer.is_some_and(|way| STEPS[usize::from(way)][2] > 0) {
+                node.pointer = None;
+                node.mark = None;
+            }
         }
         self.stage = Stage::Merging;
         Ok(())

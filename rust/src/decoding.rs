@@ -93,14 +93,14 @@ fn place_of(stop: Stop) -> Option<usize> {
 
 /// A spent round stops as a refusal does.
 fn rounds<D: Decoder>(input: &[u8], decoded: &mut Decoded) -> Result<(), Stop> {
-    let Done((height, distance), mut at) = streams::read_header(input, 0)?;
-    let shape = Shape::new(height, distance)?;
-    decoded.add(&[streams::number_bytes(height), streams::number_bytes(distance)].concat());
+    let Done(name, mut at) = streams::read_header(input, 0)?;
+    let shape = Shape::new(name)?;
+    decoded.add(&streams::header_bytes(name));
     let mut decoder = D::open(shape);
     let (mut bytes, mut escapes, mut edges) =
         (vec![0; shape.detectors()], vec![0; shape.detectors()], vec![0; shape.edges()]);
     loop {
-        match streams::read_round(height, distance, input, at, &mut bytes) {
+        match streams::read_round(name, input, at, &mut bytes) {
             Ok(Done((), next)) => at = next,
             Err(Stop::End) => return Ok(()),
             Err(stop) => return Err(stop),

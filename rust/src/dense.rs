@@ -3,17 +3,13 @@
 //! rounds, and counts them only until they fill its window.
 
 use crate::decoding::{self, Decoded, Decoder, Ran, BUDGET};
+use crate::steps::{
+    each_way, is_own, kinds, own_ways, ways_from, Way, Ways, BACK, DOWNWARD, KIND, STEPS, UPWARD, WAYS,
+};
 use crate::streams::Shape;
 
-// The directions, in the scan order; no direction is C.
-const NORTH: usize = 0;
-const WEST: usize = 1;
-const EAST: usize = 2;
-const SOUTH: usize = 3;
-const DOWN: usize = 4;
-const UP: usize = 5;
-const NONE: u8 = 6;
-const OPPOSITE: [usize; 6] = [SOUTH, EAST, WEST, NORTH, UP, DOWN];
+/// No direction is C.
+const NONE: Way = WAYS as Way;
 
 /// The mark reset, above every number.
 const RESET: u16 = u16::MAX;
@@ -21,27 +17,31 @@ const RESET: u16 = u16::MAX;
 #[derive(Clone, Copy)]
 struct Node {
     mark: u16,
-    pointer: u8,
+    pointer: Way,
     active: bool,
     defect: bool,
     unrooted: bool,
 }
 
-/// Edge entries stand at 3 × node + kind of the west, north or lower end.
+/// Edge entries stand at kinds × node + kind of the west, north or lower end.
 pub struct Dense {
+    /// How many kinds of edges the model has.
+    kinds: usize,
     /// Nodes of a sheet, and of all sheets that are there: those of supplied rounds.
     sheet: usize,
     present: usize,
-    /// From a node to its neighbour in each direction, and from three times the node to the edge.
-    to_node: [isize; 6],
-    to_edge: [isize; 6],
+    /// From a node to its neighbour in each direction, and from kinds × node to the edge.
+    to_node: [isize; WAYS],
+    to_edge: [isize; WAYS],
     /// The document's numbers, and what falling by a sheet makes of each.
     numbers: Vec<u16>,
     fallen: Vec<u16>,
-    /// Directions in which there is an edge once all sheets are there, a bit for each; down is set only when the sheet below
-    /// is, so nothing reaches an absent one. `open` are those where it has growth 2.
-    ways: Vec<u8>,
-    open: Vec<u8>,
+    /// Directions in which there is an edge once all sheets are there, by place in the sheet.
+    outline: Vec<Ways>,
+    /// Those in which there is one: down only when the sheet below is there, so nothing reaches an absent one. `open` are
+    /// those where it has growth 2.
+    ways: Vec<Ways>,
+    open: Vec<Ways>,
     nodes: Vec<Node>,
     /// The nodes at a step's start.
     before: Vec<Node>,
@@ -52,85 +52,76 @@ pub struct Dense {
     edges: Vec<usize>,
 }
 
-/// The set bits of a mask of directions, in the scan order.
-fn each_way(mut mask: u8) -> impl Iterator<Item = usize> {
-    std::iter::from_fn(move || {
-        let way = mask.trailing_zeros() as usize;
-        mask &= mask.wrapping_sub(1);
-        (way < 6).then_some(way)
-    })
-}
-
 impl Dense {
     fn new(shape: Shape) -> Dense {
         let (h, d) = (shape.height, shape.distance);
-        let (width, sheets) = (d + 1, 2 * (d / 2) + 1);
+        let (width, sheets, kinds) = (d + 1, 2 * (d / 2) + 1, kinds(shape.model));
         let sheet = h * width;
-        let (row_step, sheet_step) = (width as isize, sheet as isize);
+        let places = || (0..h).flat_map(|row| (0..=d).map(move |column| [row, column]));
 
-        let (mut numbers, mut ways) = (vec![], vec![]);
         // Numbers by the depth, the ghost sheet's too.
         let boundaries = 2 * h * (sheets + 1);
-        let number = |depth: usize, row: usize, column: usize| match column {
+        let number = |depth: usize, [row, column]: [usize; 2]| match column {
             0 => 2 * h * depth + 2 * row,
             _ if column == d => 2 * h * depth + 2 * row + 1,
             _ => boundaries + h * (d - 1) * depth + (d - 1) * row + column - 1,
         };
         let mut fallen = vec![0; sheet * (sheets + 1)];
         for depth in 0..=sheets {
-            for row in 0..h {
-                for column in 0..=d {
-                    let below = number((depth + 1).min(sheets), row, column);
-                    fallen[number(depth, row, column)] = below as u16;
-                    if depth == sheets {
-                        continue;
-                    }
-                    numbers.push(number(depth, row, column) as u16);
-                    let detector = 0 < column && column < d;
-                    let there = [
-                        detector && row > 0,
-                        column > 0,
-                        column < d,
-                        detector && row + 1 < h,
-                        false,
-                        detector && depth > 0,
-                    ];
-                    ways.push(there.iter().rev().fold(0, |mask, &edge| mask << 1 | u8::from(edge)));
-                }
+            for place in places() {
+                fallen[number(depth, place)] = number((depth + 1).min(sheets), place) as u16;
             }
         }
+        let numbers: Vec<u16> =
+            (0..sheets).flat_map(|depth| places().map(move |place| number(depth, place) as u16)).collect();
 
-        let at = |row: usize, column: usize| row * width + column;
-        let rows = (0..h).flat_map(|row| (0..d).map(move |column| 3 * at(row, column)));
-        let columns = (0..h - 1).flat_map(|row| (1..d).map(move |column| 3 * at(row, column) + 1));
-        let detectors: Vec<usize> = (0..h).flat_map(|row| (1..d).map(move |column| at(row, column))).collect();
-        let edges = rows.chain(columns).chain(detectors.iter().map(|node| 3 * node + 2)).collect();
+        let outline: Vec<Ways> = places().map(|place| ways_from(shape, place)).collect();
+        let top = outline.iter().map(|ways| ways & !(UPWARD | DOWNWARD));
+        let below = outline.iter().map(|ways| ways & !DOWNWARD).cycle();
+        let ways = top.chain(below).take(numbers.len()).collect();
+
+        let (mut to_node, mut to_edge) = ([0; WAYS], [0; WAYS]);
+        for (way, [rows, columns, sheets]) in STEPS.into_iter().enumerate() {
+            to_node[way] = rows * width as isize + columns + sheets * sheet as isize;
+            to_edge[way] = KIND[way] as isize;
+            if !is_own(way as Way) {
+                to_edge[way] += kinds as isize * to_node[way];
+            }
+        }
+        let detectors = (0..h).flat_map(|row| (1..d).map(move |column| row * width + column)).collect();
+        let of_kind = |way: Way| {
+            let outline = outline.iter().enumerate().filter(move |(_, ways)| *ways >> way & 1 == 1);
+            outline.map(move |(node, _)| kinds * node + KIND[usize::from(way)])
+        };
+        let edges = own_ways(shape.model).flat_map(of_kind).collect();
 
         let nodes: Vec<Node> = numbers.iter().map(|&number| fresh(number)).collect();
         Dense {
+            kinds,
             sheet,
             present: 0,
-            to_node: [-row_step, -1, 1, row_step, sheet_step, -sheet_step],
-            to_edge: [1 - 3 * row_step, -3, 0, 1, 3 * sheet_step + 2, 2],
+            to_node,
+            to_edge,
             numbers,
             fallen,
+            outline,
             ways,
             open: vec![0; nodes.len()],
             before: nodes.clone(),
-            growth: vec![0; 3 * nodes.len()],
-            correction: vec![false; 3 * nodes.len()],
+            growth: vec![0; kinds * nodes.len()],
+            correction: vec![false; kinds * nodes.len()],
             nodes,
             detectors,
             edges,
         }
     }
 
-    fn neighbour(&self, node: usize, way: usize) -> usize {
-        node.wrapping_add_signed(self.to_node[way])
+    fn neighbour(&self, node: usize, way: Way) -> usize {
+        node.wrapping_add_signed(self.to_node[usize::from(way)])
     }
 
-    fn edge(&self, node: usize, way: usize) -> usize {
-        (3 * node).wrapping_add_signed(self.to_edge[way])
+    fn edge(&self, node: usize, way: Way) -> usize {
+        (self.kinds * node).wrapping_add_signed(self.to_edge[usize::from(way)])
     }
 
     /// One sheet more is there, until all are. Its nodes are never active before that.
@@ -139,7 +130,9 @@ impl Dense {
             return;
         }
         if let Some(above) = self.present.checked_sub(self.sheet) {
-            self.detectors.iter().for_each(|node| self.ways[above + node] |= 1 << DOWN);
+            for (ways, outline) in self.ways[above..].iter_mut().zip(&self.outline) {
+                *ways |= outline & DOWNWARD;
+            }
         }
         self.present += self.sheet;
     }
@@ -147,8 +140,9 @@ impl Dense {
     fn round(&mut self, bytes: &[u8], edges: &mut [u8], escapes: &mut [u8]) {
         self.supply();
         let kept = self.nodes.len() - self.sheet;
+        let (kept_edges, sheet_edges) = (self.kinds * kept, self.kinds * self.sheet);
         for (byte, entry) in edges.iter_mut().zip(&self.edges) {
-            *byte = self.correction[3 * kept + entry].into();
+            *byte = self.correction[kept_edges + entry].into();
         }
         for (byte, node) in escapes.iter_mut().zip(&self.detectors) {
             *byte = self.nodes[kept + node].defect.into();
@@ -156,15 +150,15 @@ impl Dense {
 
         self.nodes.copy_within(..kept, self.sheet);
         self.open.copy_within(..kept, self.sheet);
-        self.growth.copy_within(..3 * kept, 3 * self.sheet);
-        self.correction.copy_within(..3 * kept, 3 * self.sheet);
+        self.growth.copy_within(..kept_edges, sheet_edges);
+        self.correction.copy_within(..kept_edges, sheet_edges);
         for node in &mut self.nodes[self.sheet..] {
             node.mark = self.fallen[usize::from(node.mark)];
             node.unrooted = false;
         }
         // The layer that went out had the bottom's down edges.
         for open in &mut self.open[kept..] {
-            *open &= !(1 << DOWN);
+            *open &= !DOWNWARD;
         }
 
         for (node, &number) in self.nodes[..self.sheet].iter_mut().zip(&self.numbers) {
@@ -174,8 +168,8 @@ impl Dense {
             self.nodes[node].defect = byte == 1;
         }
         self.open[..self.sheet].fill(0);
-        self.growth[..3 * self.sheet].fill(0);
-        self.correction[..3 * self.sheet].fill(false);
+        self.growth[..sheet_edges].fill(0);
+        self.correction[..sheet_edges].fill(false);
     }
 
     fn grow(&mut self) {
@@ -188,13 +182,13 @@ impl Dense {
                 self.growth[edge] = (self.growth[edge] + 1).min(2);
                 if self.growth[edge] == 2 {
                     self.open[node] |= 1 << way;
-                    self.open[there] |= 1 << OPPOSITE[way];
+                    self.open[there] |= 1 << BACK[usize::from(way)];
                 }
             }
         }
         let bottom = self.nodes.len() - self.sheet;
         for node in &mut self.nodes[bottom..] {
-            if node.pointer == DOWN as u8 {
+            if DOWNWARD >> node.pointer & 1 == 1 {
                 node.pointer = NONE;
                 node.mark = RESET;
             }
@@ -218,10 +212,9 @@ impl Dense {
             self.nodes[node].active = hot;
             return active != hot;
         }
-        let way = usize::from(pointer);
-        let there = self.neighbour(node, way);
+        let there = self.neighbour(node, pointer);
         if hot {
-            let edge = self.edge(node, way);
+            let edge = self.edge(node, pointer);
             self.correction[edge] ^= true;
             self.nodes[node].defect ^= true;
             self.nodes[there].defect ^= self.detector(there);
@@ -243,7 +236,7 @@ impl Dense {
             if other < lowest {
                 lowest = other;
                 self.nodes[node].mark = other;
-                self.nodes[node].pointer = way as u8;
+                self.nodes[node].pointer = way;
             } else if other == RESET && !unrooted {
                 self.nodes[node].mark = RESET;
                 self.nodes[node].pointer = NONE;

@@ -1,10 +1,11 @@
 //! A window as the proved crates hold it, well-formed or not: all its entries, in their internal order.
 
-use crate::decoder::{Edge, Layer, Node, Sheet, Stage, Way, Window};
+use crate::decoder::{Edge, Layer, Node, Sheet, Stage, Window};
 use crate::decoding::Ran;
-use crate::streams::LARGEST;
+use crate::steps::KINDS;
+use crate::streams::{Name, LARGEST};
 
-/// An entry for a node. Pointers are 0 for C and 1 to 6 in the scan order; no mark is reset.
+/// An entry for a node. Pointers are 0 for C and 1 to 12 in the scan order; no mark is reset.
 #[derive(Debug, Clone, Copy, PartialEq, Eq)]
 pub struct Entry {
     pub active: bool,
@@ -17,15 +18,15 @@ pub struct Entry {
 const UNUSED: Entry = Entry { active: false, defect: false, unrooted: false, pointer: 0, mark: Some(0) };
 pub const NODES: usize = LARGEST.height * (LARGEST.distance + 1) * LARGEST.sheets();
 /// Entries of growth, and of correction.
-pub const SLOTS: usize = 3 * NODES;
+pub const SLOTS: usize = KINDS * NODES;
 /// Bits of the last measured sheet.
 pub const DETECTORS: usize = LARGEST.detectors();
-const WAYS: [Way; 6] = [Way::North, Way::West, Way::East, Way::South, Way::Down, Way::Up];
 
 #[derive(Debug, Clone, PartialEq, Eq)]
 pub struct Image {
     pub height: u8,
     pub distance: u8,
+    pub model: u8,
     pub stage: Stage,
     pub next: u32,
     pub nodes: Vec<Entry>,
@@ -50,6 +51,7 @@ impl Image {
         Image {
             height: 0,
             distance: 0,
+            model: 0,
             stage: Stage::Rest,
             next: 0,
             nodes: vec![UNUSED; NODES],
@@ -59,11 +61,17 @@ impl Image {
         }
     }
 
+    /// Height, distance and model.
+    pub fn name(&self) -> Name {
+        [self.height, self.distance, self.model].map(u32::from)
+    }
+
     pub fn of(window: &Window) -> Image {
         let sheet = &window.sheet;
         let mut image = Image::nothing();
         image.height = sheet.shape.height as u8;
         image.distance = sheet.shape.distance as u8;
+        image.model = sheet.shape.model as u8;
         image.stage = window.stage;
         image.next = window.next;
         image.measured[..window.measured.len()].copy_from_slice(&window.measured);
@@ -73,12 +81,12 @@ impl Image {
                     active: node.active,
                     defect: node.defect,
                     unrooted: node.unrooted,
-                    pointer: node.pointer.map_or(0, |way| way as u8 + 1),
+                    pointer: node.pointer.map_or(0, |way| way + 1),
                     mark: node.mark.map(|root| window.number(root) as u16),
                 };
             }
             for (number, edge) in layer.edges.iter().enumerate() {
-                // The top layer's time edges lead nowhere, and their slots are never set.
+                // The top layer's edges to the sheet above lead nowhere, and their slots are never set.
                 image.growth[slot(sheet, depth, number)] = edge.halves;
                 image.correction[slot(sheet, depth, number)] = edge.correction;
             }
@@ -90,14 +98,12 @@ impl Image {
     /// others have to be zero.
     fn read(&self) -> Option<Window> {
         let mut left = self.clone();
-        let mut window = Window::fresh(self.height.into(), self.distance.into()).ok()?;
+        let mut window = Window::fresh(self.name()).ok()?;
         let sheet = window.sheet.clone();
         (window.stage, window.next) = (self.stage, self.next);
         if (self.next as usize) < sheet.sheets() {
             return None;
         }
-        // In stage to grow a bottom detector's pointer may lead to the sheet that left, unless its round was absent.
-        let lost = self.stage == Stage::ToGrow && !window.absent(sheet.sheets());
         // Roots by their numbers, those of the ghost sheet too.
         let mut roots = vec![window.root(0, 0); (sheet.sheets() + 1) * sheet.nodes()];
         for depth in 0..=sheet.sheets() {
@@ -114,13 +120,9 @@ impl Image {
                     None if self.stage == Stage::Merging => None,
                     None => return None,
                 };
-                let pointer = match entry.pointer {
-                    0 => None,
-                    code => Some(*WAYS.get(usize::from(code) - 1)?),
-                };
-                let lost = lost && depth + 1 == sheet.sheets() && sheet.detector(place);
-                let fits = |way| window.links(depth, place).any(|(along, ..)| along == way) || lost && way == Way::Down;
-                if !pointer.is_none_or(fits) || entry.defect && !sheet.detector(place) {
+                let pointer = entry.pointer.checked_sub(1);
+                if !pointer.is_none_or(|way| window.allows(depth, place, way)) || entry.defect && !sheet.detector(place)
+                {
                     return None;
                 }
                 let Entry { active, defect, unrooted, .. } = entry;
@@ -158,8 +160,8 @@ impl Image {
         answer
     }
 
-    pub fn fresh(height: u32, distance: u32) -> Result<Image, u8> {
-        Ok(Image::of(&Window::fresh(height, distance)?))
+    pub fn fresh(name: Name) -> Result<Image, u8> {
+        Ok(Image::of(&Window::fresh(name)?))
     }
 
     pub fn round(&mut self, bytes: &[u8], edges: &mut [u8], escapes: &mut [u8]) -> Result<(), u8> {

@@ -1,9 +1,9 @@
-//! A second opinion on the proved code. `streams` says what document 01 asks for, `proved` calls the archive, and
-//! `compare` holds every answer and every byte of the one against the other. `decoder` is a second decoder, which
-//! `decoding` takes through a whole stream, and `account` holds it to the law; `replay` plays the stored script of
-//! `crates/replay` on it. `script` writes that script, and random lists of calls; `image` has the windows that they
-//! edit. `dense` and `sparse` are decoders for the benchmark, a plain and a fast one. `cases`, `random` and `noise`
-//! make inputs, and `tally` and `covered` count what came of them; `repository` finds files.
+//! A second opinion on the proved code. `streams` says what the documents ask for, `proved` calls the archive, and
+//! `compare` holds every answer and every byte of the one against the other. `steps` has the directions of both models.
+//! `decoder` is a second decoder, which `decoding` takes through a whole stream, and `account` holds it to the law;
+//! `replay` plays scripts of `crates/replay` on it. `script` writes these, the stored one too, and random lists of calls;
+//! `image` has the windows that they edit. `dense` and `sparse` are decoders for the benchmark, a plain and a fast one.
+//! `cases`, `random` and `noise` make inputs, and `tally` and `covered` count what came of them; `repository` finds files.
 
 pub mod account;
 pub mod cases;
@@ -20,5 +20,6 @@ pub mod replay;
 pub mod repository;
 pub mod script;
 pub mod sparse;
+pub mod steps;
 pub mod streams;
 pub mod tally;

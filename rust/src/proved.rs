@@ -2,7 +2,7 @@
 //! holds the archive to the calling convention: out-parameters lie between guards, and stay as they were
 //! where the convention says so.
 
-use crate::streams::{Answer, Done, Stop};
+use crate::streams::{Answer, Done, Name, Stop};
 
 extern "C" {
     fn baizeridge_read_number(src: *const u8, src_len: usize, at: usize, value: *mut u32, place: *mut usize) -> u8;
@@ -29,11 +29,13 @@ extern "C" {
         at: usize,
         height: *mut u32,
         distance: *mut u32,
+        model: *mut u32,
         place: *mut usize,
     ) -> u8;
     fn baizeridge_write_header(
         height: u32,
         distance: u32,
+        model: u32,
         out: *mut u8,
         out_len: usize,
         at: usize,
@@ -42,6 +44,7 @@ extern "C" {
     fn baizeridge_read_round(
         height: u32,
         distance: u32,
+        model: u32,
         src: *const u8,
         src_len: usize,
         at: usize,
@@ -52,6 +55,7 @@ extern "C" {
     fn baizeridge_write_round(
         height: u32,
         distance: u32,
+        model: u32,
         defects: *const u8,
         defects_len: usize,
         out: *mut u8,
@@ -62,6 +66,7 @@ extern "C" {
     fn baizeridge_read_result(
         height: u32,
         distance: u32,
+        model: u32,
         src: *const u8,
         src_len: usize,
         at: usize,
@@ -75,6 +80,7 @@ extern "C" {
     fn baizeridge_write_result(
         height: u32,
         distance: u32,
+        model: u32,
         edges: *const u8,
         edges_len: usize,
         escapes: *const u8,
@@ -91,11 +97,13 @@ extern "C" {
         at: *mut usize,
         height: *mut u32,
         distance: *mut u32,
+        model: *mut u32,
         place: *mut usize,
     ) -> u8;
     fn baizeridge_take_round(
         height: u32,
         distance: u32,
+        model: u32,
         src: *const u8,
         src_len: usize,
         at: *mut usize,
@@ -106,6 +114,7 @@ extern "C" {
     fn baizeridge_take_result(
         height: u32,
         distance: u32,
+        model: u32,
         src: *const u8,
         src_len: usize,
         at: *mut usize,
@@ -121,6 +130,7 @@ extern "C" {
         src_len: usize,
         height: *mut u32,
         distance: *mut u32,
+        model: *mut u32,
         rounds: *mut usize,
         place: *mut usize,
     ) -> u8;
@@ -129,6 +139,7 @@ extern "C" {
         src_len: usize,
         height: *mut u32,
         distance: *mut u32,
+        model: *mut u32,
         rounds: *mut usize,
         place: *mut usize,
     ) -> u8;
@@ -140,19 +151,19 @@ extern "C" {
         count: *mut usize,
         place: *mut usize,
     ) -> u8;
-    fn baizeridge_nodes(height: u32, distance: u32) -> usize;
-    fn baizeridge_detectors(height: u32, distance: u32) -> usize;
-    fn baizeridge_layer_edges(height: u32, distance: u32) -> usize;
+    fn baizeridge_nodes(height: u32, distance: u32, model: u32) -> usize;
+    fn baizeridge_detectors(height: u32, distance: u32, model: u32) -> usize;
+    fn baizeridge_layer_edges(height: u32, distance: u32, model: u32) -> usize;
 }
 
 /// A shape's sizes: the nodes of its window, the detectors of a sheet, the edges of a layer.
-pub fn sizes(height: u32, distance: u32) -> [usize; 3] {
+pub fn sizes([height, distance, model]: Name) -> [usize; 3] {
     // SAFETY: numbers in, numbers out.
     unsafe {
         [
-            baizeridge_nodes(height, distance),
-            baizeridge_detectors(height, distance),
-            baizeridge_layer_edges(height, distance),
+            baizeridge_nodes(height, distance, model),
+            baizeridge_detectors(height, distance, model),
+            baizeridge_layer_edges(height, distance, model),
         ]
     }
 }
@@ -219,41 +230,51 @@ pub fn write_list(bits: &[u8], out: &mut [u8], at: usize) -> Answer<()> {
     }))
 }
 
-pub fn read_header(src: &[u8], at: usize) -> Answer<(u32, u32)> {
-    let read = answer(|[height, distance], place| unsafe {
-        baizeridge_read_header(src.as_ptr(), src.len(), at, height, distance, place)
-    });
-    read.map(|Done([height, distance], next)| Done((height, distance), next))
+pub fn read_header(src: &[u8], at: usize) -> Answer<Name> {
+    answer(|[height, distance, model], place| unsafe {
+        baizeridge_read_header(src.as_ptr(), src.len(), at, height, distance, model, place)
+    })
 }
 
-pub fn write_header(height: u32, distance: u32, out: &mut [u8], at: usize) -> Answer<()> {
+pub fn write_header([height, distance, model]: Name, out: &mut [u8], at: usize) -> Answer<()> {
     alone(answer(|[], place| unsafe {
-        baizeridge_write_header(height, distance, out.as_mut_ptr(), out.len(), at, place)
+        baizeridge_write_header(height, distance, model, out.as_mut_ptr(), out.len(), at, place)
     }))
 }
 
-pub fn read_round(height: u32, distance: u32, src: &[u8], at: usize, defects: &mut [u8]) -> Answer<()> {
+pub fn read_round([height, distance, model]: Name, src: &[u8], at: usize, defects: &mut [u8]) -> Answer<()> {
     let (to, to_len) = (defects.as_mut_ptr(), defects.len());
     alone(answer(|[], place| unsafe {
-        baizeridge_read_round(height, distance, src.as_ptr(), src.len(), at, to, to_len, place)
+        baizeridge_read_round(height, distance, model, src.as_ptr(), src.len(), at, to, to_len, place)
     }))
 }
 
-pub fn write_round(height: u32, distance: u32, defects: &[u8], out: &mut [u8], at: usize) -> Answer<()> {
+pub fn write_round([height, distance, model]: Name, defects: &[u8], out: &mut [u8], at: usize) -> Answer<()> {
     let (from, from_len) = (defects.as_ptr(), defects.len());
     alone(answer(|[], place| unsafe {
-        baizeridge_write_round(height, distance, from, from_len, out.as_mut_ptr(), out.len(), at, place)
+        baizeridge_write_round(height, distance, model, from, from_len, out.as_mut_ptr(), out.len(), at, place)
     }))
 }
 
 /// A reader of results: by an offset, or by a lent one.
-type ResultReader<At> =
-    unsafe extern "C" fn(u32, u32, *const u8, usize, At, *mut u8, usize, *mut u8, usize, *mut u32, *mut usize) -> u8;
+type ResultReader<At> = unsafe extern "C" fn(
+    u32,
+    u32,
+    u32,
+    *const u8,
+    usize,
+    At,
+    *mut u8,
+    usize,
+    *mut u8,
+    usize,
+    *mut u32,
+    *mut usize,
+) -> u8;
 
 fn result_by<At>(
     read: ResultReader<At>,
-    height: u32,
-    distance: u32,
+    [height, distance, model]: Name,
     src: &[u8],
     at: At,
     [edges, escapes]: [&mut [u8]; 2],
@@ -262,18 +283,17 @@ fn result_by<At>(
     let (escapes, escapes_len) = (escapes.as_mut_ptr(), escapes.len());
     let (from, from_len) = (src.as_ptr(), src.len());
     with_value(answer(|[steps], place| unsafe {
-        read(height, distance, from, from_len, at, edges, edges_len, escapes, escapes_len, steps, place)
+        read(height, distance, model, from, from_len, at, edges, edges_len, escapes, escapes_len, steps, place)
     }))
 }
 
-pub fn read_result(height: u32, distance: u32, src: &[u8], at: usize, lists: [&mut [u8]; 2]) -> Answer<u32> {
-    result_by(baizeridge_read_result, height, distance, src, at, lists)
+pub fn read_result(name: Name, src: &[u8], at: usize, lists: [&mut [u8]; 2]) -> Answer<u32> {
+    result_by(baizeridge_read_result, name, src, at, lists)
 }
 
 /// The lists are the committed edges and the escaped defects.
 pub fn write_result(
-    height: u32,
-    distance: u32,
+    [height, distance, model]: Name,
     [edges, escapes]: [&[u8]; 2],
     steps: u32,
     out: &mut [u8],
@@ -283,6 +303,7 @@ pub fn write_result(
         baizeridge_write_result(
             height,
             distance,
+            model,
             edges.as_ptr(),
             edges.len(),
             escapes.as_ptr(),
@@ -296,46 +317,47 @@ pub fn write_result(
     }))
 }
 
-pub fn take_header(src: &[u8], at: &mut usize) -> Answer<(u32, u32)> {
-    let read = lend(at, |at| {
-        answer(|[height, distance], place| unsafe {
-            baizeridge_take_header(src.as_ptr(), src.len(), at, height, distance, place)
+pub fn take_header(src: &[u8], at: &mut usize) -> Answer<Name> {
+    lend(at, |at| {
+        answer(|[height, distance, model], place| unsafe {
+            baizeridge_take_header(src.as_ptr(), src.len(), at, height, distance, model, place)
         })
-    });
-    read.map(|Done([height, distance], next)| Done((height, distance), next))
+    })
 }
 
-pub fn take_round(height: u32, distance: u32, src: &[u8], at: &mut usize, defects: &mut [u8]) -> Answer<()> {
+pub fn take_round([height, distance, model]: Name, src: &[u8], at: &mut usize, defects: &mut [u8]) -> Answer<()> {
     let (to, to_len) = (defects.as_mut_ptr(), defects.len());
     alone(lend(at, |at| {
         answer(|[], place| unsafe {
-            baizeridge_take_round(height, distance, src.as_ptr(), src.len(), at, to, to_len, place)
+            baizeridge_take_round(height, distance, model, src.as_ptr(), src.len(), at, to, to_len, place)
         })
     }))
 }
 
-pub fn take_result(height: u32, distance: u32, src: &[u8], at: &mut usize, lists: [&mut [u8]; 2]) -> Answer<u32> {
-    lend(at, |at| result_by(baizeridge_take_result, height, distance, src, at, lists))
+pub fn take_result(name: Name, src: &[u8], at: &mut usize, lists: [&mut [u8]; 2]) -> Answer<u32> {
+    lend(at, |at| result_by(baizeridge_take_result, name, src, at, lists))
 }
 
 /// A reader of a whole stream.
-type Scanner = unsafe extern "C" fn(*const u8, usize, *mut u32, *mut u32, *mut usize, *mut usize) -> u8;
+type Scanner = unsafe extern "C" fn(*const u8, usize, *mut u32, *mut u32, *mut u32, *mut usize, *mut usize) -> u8;
 
-/// Height, distance and the count of rounds.
-fn scan_by(scan: Scanner, src: &[u8]) -> Answer<(u32, u32, usize)> {
+/// The shape's name and the count of rounds.
+fn scan_by(scan: Scanner, src: &[u8]) -> Answer<(Name, usize)> {
     let mut rounds = PLACE;
     let read = lend(&mut rounds, |rounds| {
-        answer(|[height, distance], place| unsafe { scan(src.as_ptr(), src.len(), height, distance, rounds, place) })
+        answer(|[height, distance, model], place| unsafe {
+            scan(src.as_ptr(), src.len(), height, distance, model, rounds, place)
+        })
     });
     assert!(read.is_ok() || rounds == PLACE, "{read:?}: a count was stored");
-    read.map(|Done([height, distance], next)| Done((height, distance, rounds), next))
+    read.map(|Done(name, next)| Done((name, rounds), next))
 }
 
-pub fn scan_input(src: &[u8]) -> Answer<(u32, u32, usize)> {
+pub fn scan_input(src: &[u8]) -> Answer<(Name, usize)> {
     scan_by(baizeridge_scan_input, src)
 }
 
-pub fn scan_results(src: &[u8]) -> Answer<(u32, u32, usize)> {
+pub fn scan_results(src: &[u8]) -> Answer<(Name, usize)> {
     scan_by(baizeridge_scan_results, src)
 }
 

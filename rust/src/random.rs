@@ -43,6 +43,11 @@ impl Random {
         }
     }
 
+    /// Numbers, now and then another in the place of one.
+    pub fn wild<const N: usize>(&mut self, right: [u32; N], wild: [u32; N]) -> [u32; N] {
+        std::array::from_fn(|place| self.pick(&[right[place], right[place], right[place], wild[place]]))
+    }
+
     /// A number of any length in bits.
     pub fn number(&mut self) -> u32 {
         (self.draw() >> 32) as u32 >> self.below(32)

@@ -2,7 +2,8 @@
 
 use crate::decoder::Stage;
 use crate::decoding::Ran;
-use crate::image::{Entry, Image};
+use crate::image::{Entry, Image, NODES, SLOTS};
+use std::sync::OnceLock;
 
 /// The longest script, in bytes.
 pub const LONGEST: usize = 65_536;
@@ -35,17 +36,47 @@ fn stage_code(stage: Stage) -> u64 {
 
 /// Below 2^55.
 const PRIME: u64 = (1 << 55) - 55;
+const FACTOR: u64 = 259;
 
-/// A polynomial modulo a prime, over every entry of the window but for the last measured sheet.
+fn mix(sum: u64, entry: u64) -> u64 {
+    (sum * FACTOR + entry + 1) % PRIME
+}
+
+/// By how many entries of 0 there are: the power of the factor, and what they make of the sum 0.
+fn zeros() -> &'static [[u64; 2]] {
+    static ZEROS: OnceLock<Vec<[u64; 2]>> = OnceLock::new();
+    let next = |&[power, sum]: &[u64; 2]| Some([power * FACTOR % PRIME, mix(sum, 0)]);
+    ZEROS.get_or_init(|| std::iter::successors(Some([1, 0]), next).take(ENTRIES + 1).collect())
+}
+
+/// All that a digest is over.
+const ENTRIES: usize = 5 + 5 * NODES + 2 * SLOTS;
+
+/// A polynomial modulo a prime, over every entry of the window but for the last measured sheet. Most entries are 0, and
+/// those in a row are taken together.
 pub fn digest(image: &Image) -> u64 {
-    let head = [image.height.into(), image.distance.into(), stage_code(image.stage), image.next.into()];
+    let [height, distance, model] = image.name().map(u64::from);
+    let head = [height, distance, model, stage_code(image.stage), image.next.into()];
     let nodes = image.nodes.iter().flat_map(|node| {
         let mark = node.mark.map_or(65_536, u64::from);
         [node.active.into(), node.defect.into(), node.unrooted.into(), node.pointer.into(), mark]
     });
     let growth = image.growth.iter().map(|&halves| u64::from(halves));
     let correction = image.correction.iter().map(|&bit| u64::from(bit));
-    head.into_iter().chain(nodes).chain(growth).chain(correction).fold(0, |sum, x| (sum * 259 + x + 1) % PRIME)
+    let pass = |sum: u64, run: usize| {
+        let [power, of_zeros] = zeros()[run];
+        ((u128::from(sum) * u128::from(power) + u128::from(of_zeros)) % u128::from(PRIME)) as u64
+    };
+    let (mut sum, mut run) = (0, 0);
+    head.into_iter().chain(nodes).chain(growth).chain(correction).for_each(|entry| {
+        if entry == 0 {
+            run += 1;
+        } else {
+            sum = mix(pass(sum, run), entry);
+            run = 0;
+        }
+    });
+    pass(sum, run)
 }
 
 /// The last measured sheet: 0 where it is empty.
@@ -55,7 +86,7 @@ fn folded(measured: &[bool]) -> u64 {
 
 impl Default for Player {
     fn default() -> Player {
-        Player { image: Image::fresh(1, 2).expect("1 by 2 is a shape"), full: false }
+        Player { image: Image::fresh([1, 2, 0]).expect("1 by 2 is a shape"), full: false }
     }
 }
 
@@ -73,7 +104,7 @@ impl Player {
         let number = |place: usize| words[place].parse::<u32>().expect("a number of 32 bits");
         match words[0] {
             "open" => {
-                let opened = Image::fresh(number(1), number(2));
+                let opened = Image::fresh([1, 2, 3].map(number));
                 let answer = opened.as_ref().map(|_| ()).map_err(|&number| number);
                 self.image = opened.unwrap_or_else(|_| Image::nothing());
                 self.line(format!("open {}", told(answer)))
@@ -116,7 +147,10 @@ impl Player {
             edit => {
                 let i = number(1) as usize;
                 match edit {
-                    "dims" => (self.image.height, self.image.distance) = (number(1) as u8, number(2) as u8),
+                    "dims" => {
+                        let [height, distance, model] = [1, 2, 3].map(|place| number(place) as u8);
+                        self.image = Image { height, distance, model, ..self.image.clone() };
+                    }
                     "stage" => self.image.stage = [Stage::Rest, Stage::ToGrow, Stage::Merging][i],
                     "next" => self.image.next = number(1),
                     "entry" => {

@@ -1,6 +1,8 @@
-//! The script that is stored with `crates/replay`.
+//! Scripts for `crates/replay`: the one that is stored with it, and others for one model.
 
 mod absent;
+mod diagonals;
+mod faults;
 mod raw;
 mod runs;
 
@@ -11,16 +13,27 @@ use crate::decoding::Decoder;
 use crate::image::{self, Entry, Image};
 use crate::random::Random;
 use crate::replay::{Player, LONGEST};
+use crate::steps::{Way, WAYS};
 use crate::streams::Shape;
 
 /// The names of the round calls.
 const ROUNDS: [&str; 2] = ["round", "raw"];
 
+/// Which part of the cases a script has.
+#[derive(Clone, Copy, PartialEq, Eq)]
+enum Extent {
+    All,
+    /// Of each list a share, another one for each model and each stage.
+    Share,
+}
+
 /// A script, played as it is written.
-#[derive(Default)]
 struct Script {
     player: Player,
     text: String,
+    model: usize,
+    extent: Extent,
+    seed: u64,
     /// Whether the last edit was tried with a raw round.
     tried_raw: bool,
 }
@@ -35,30 +48,77 @@ fn stage_line(stage: Stage) -> String {
     format!("stage {}", stage as u8)
 }
 
-/// The whole script.
+/// The stored script: both models, with a share of what the others have.
 pub fn script() -> String {
-    let mut script = Script::default();
+    let mut script = Script::new(0, Extent::Share, 0);
     script.printed();
     script.shapes();
-    script.sessions();
-    for call in ROUNDS {
-        script.lengths(call);
-        script.last_round(call);
-        script.stages(call);
+    for model in [0, 1] {
+        script.model = model;
+        script.sessions();
+        script.calls(&ROUNDS[model..=model]);
+        script.in_order();
+        script.ill_formed();
+        script.absent();
+        script.diagonals();
+        script.by_chance();
     }
+    script.finished()
+}
+
+/// Sessions, refusals and windows that are not well-formed, all of a model.
+pub fn cases_of(model: usize) -> String {
+    let mut script = Script::new(model, Extent::All, 0);
+    script.sessions();
+    script.calls(&ROUNDS);
     script.in_order();
     script.ill_formed();
     script.absent();
-    script.edited();
-    script.noisy();
-    script.mixed();
-    script.runs();
-    script.lists();
-    assert!(script.text.len() <= LONGEST);
-    script.text
+    script.diagonals();
+    script.finished()
+}
+
+/// Random windows, sessions and lists of calls of a model.
+pub fn random_of(model: usize, seed: u64) -> String {
+    let mut script = Script::new(model, Extent::All, seed);
+    script.strays();
+    script.by_chance();
+    script.finished()
 }
 
 impl Script {
+    fn new(model: usize, extent: Extent, seed: u64) -> Script {
+        Script { player: Player::default(), text: String::new(), model, extent, seed, tried_raw: false }
+    }
+
+    fn finished(self) -> String {
+        assert!(self.text.len() < LONGEST, "{} bytes", self.text.len());
+        self.text
+    }
+
+    /// Random parts.
+    fn by_chance(&mut self) {
+        self.edited();
+        self.noisy();
+        self.mixed();
+        self.runs();
+        self.lists();
+    }
+
+    /// The cases of a list, with their places in it: all, or those of a model.
+    fn cases<T>(&self, list: impl IntoIterator<Item = T>) -> Vec<(usize, T)> {
+        let all = list.into_iter().enumerate();
+        all.filter(|(case, _)| self.extent == Extent::All || case % 2 == self.model).collect()
+    }
+
+    fn random(&self, part: u64, case: usize) -> Random {
+        Random::new(part ^ self.seed << 32, (2 * case + self.model) as u64)
+    }
+
+    fn open(&mut self, height: usize, distance: usize) -> String {
+        self.add(format!("open {height} {distance} {}", self.model))
+    }
+
     fn add(&mut self, line: impl AsRef<str>) -> String {
         let line = line.as_ref();
         self.text += line;
@@ -71,13 +131,14 @@ impl Script {
     }
 
     fn shape(&self) -> Shape {
-        Shape::new(self.image().height.into(), self.image().distance.into()).expect("a shape in range")
+        Shape::new(self.image().name()).expect("a shape in range")
     }
 
-    /// A fresh window of the image's shape with its round number: it has the same edges.
+    /// A fresh window of the image's shape with its round number and stage: it has the same edges, and allows the same
+    /// pointers.
     fn outline(&self) -> Window {
-        let next = self.image().next;
-        Window { next, ..Window::open(self.shape()) }
+        let Image { next, stage, .. } = *self.image();
+        Window { next, stage, ..Window::open(self.shape()) }
     }
 
     /// A round call with buffers of the right lengths.
@@ -109,70 +170,91 @@ impl Script {
 
     fn shapes(&mut self) {
         self.add("# fresh windows: 0 by 3, 16 by 3, 1 by 1, 1 by 16, both out of range, numbers of 32 bits, the smallest and the largest");
-        for shape in
-            ["0 3", "16 3", "1 1", "1 16", "0 0", "16 16", "257 3", "3 258", "4294967295 4294967295", "1 2", "15 15"]
+        let shapes =
+            ["0 3", "16 3", "1 1", "1 16", "0 0", "16 16", "257 3", "3 258", "4294967295 4294967295", "1 2", "15 15"];
+        for (shape, model) in shapes.into_iter().zip([0, 1].into_iter().cycle()) {
+            self.add(format!("open {shape} {model}"));
+        }
+        self.add("# models that there are not: 1 and 2 come first");
+        for shape in ["1 3 2", "1 3 255", "1 3 256", "1 3 257", "1 3 4294967295", "15 15 2", "0 3 2", "1 1 2", "0 1 2"]
         {
             self.add(format!("open {shape}"));
         }
         self.add("# what a refused shape gives is no window");
-        self.add("open 0 3");
-        for call in ["round 0 0", "raw 0 0", "grow", "merging 1", "run 1"] {
-            self.add(call);
+        for shape in ["0 3 1", "3 3 2"] {
+            self.add(format!("open {shape}"));
+            for call in ["round 0 0", "raw 0 0", "grow", "merging 1", "run 1"] {
+                self.add(call);
+            }
+        }
+    }
+
+    /// A round each, with single calls up to rest.
+    fn session(&mut self, height: usize, distance: usize, rounds: &[&str]) {
+        self.open(height, distance);
+        for bytes in rounds {
+            self.round(bytes);
+            self.settle();
         }
     }
 
     fn sessions(&mut self) {
-        self.add("# the first session of document 01");
-        self.add("open 1 3");
-        for bytes in ["10", "00", "00", "00"] {
-            self.round(bytes);
-            self.settle();
-        }
+        self.add(format!("# the first session of document 01, model {}", self.model));
+        self.session(1, 3, &["10", "00", "00", "00"]);
         self.add("# the second");
-        self.add("open 1 3");
-        for bytes in ["11", "00", "00", "00"] {
-            self.round(bytes);
-            self.settle();
-        }
+        self.session(1, 3, &["11", "00", "00", "00"]);
         self.add("# 1 by 2, one defect: a tie");
-        self.add("open 1 2");
-        for bytes in ["1", "0", "0", "0", "0"] {
-            self.round(bytes);
-            self.settle();
-        }
-        self.add("# 1 by 4, a defect at detector 2: nothing comes before the first round");
-        self.add("open 1 4");
+        self.session(1, 2, &["1", "0", "0", "0", "0"]);
+        self.add(format!(
+            "# 1 by 4, a defect at detector 2, model {}: nothing comes before the first round",
+            self.model
+        ));
+        self.open(1, 4);
         for bytes in ["001", "000", "000", "000", "000", "000"] {
             self.round(bytes);
             self.add("run 99");
         }
     }
 
+    /// The refusals of round calls, and the order of calls.
+    fn calls(&mut self, rounds: &[&str]) {
+        for call in rounds {
+            self.lengths(call);
+            self.last_round(call);
+            self.stages(call);
+        }
+    }
+
     fn lengths(&mut self, call: &str) {
         self.add("# 1 by 3: slices of 0 to 4 bytes, buffers too short and too long, bytes other than 0 and 1, and several of these");
-        self.add("open 1 3");
+        self.open(1, 3);
         self.receive(call, "11");
         self.settle();
-        let faulty = [
-            "5 2, 5 2 1, 5 2 101, 5 2 1010",
-            "4 2 10, 6 2 10, 0 2 10, 631 2 10, 5 1 10, 5 3 10, 5 0 10, 5 210 10",
-            "5 2 20, 5 2 02, 5 2 90",
-            "4 1 2, 4 1 22, 5 1 22, 4 2 22, 5 3 1, 6 2 1, 0 0, 1024 256 222222",
-        ];
-        for faulty in faulty.iter().flat_map(|of_a_kind| of_a_kind.split(", ")) {
-            self.add(format!("{call} {faulty}"));
+        // Model 0 has five edges, model 1 six: one less or one more is the other's.
+        let edges = self.shape().edges();
+        let (less, more) = (edges - 1, edges + 1);
+        let short = ["", "1", "101", "1010"].map(|bytes| (edges, 2, bytes));
+        let edge_buffers = [less, more, 0, 631, 1_204].map(|edges| (edges, 2, "10"));
+        let escape_buffers = [1, 3, 0, 210].map(|escapes| (edges, escapes, "10"));
+        let others = ["20", "02", "90"].map(|bytes| (edges, 2, bytes));
+        let several =
+            [(less, 1, "2"), (less, 1, "22"), (edges, 1, "22"), (less, 2, "22"), (edges, 3, "1"), (more, 2, "1")];
+        let faulty =
+            [&short[..], &edge_buffers, &escape_buffers, &others, &several, &[(0, 0, ""), (1_280, 256, "222222")]];
+        for (edges, escapes, bytes) in faulty.concat() {
+            self.add(format!("{call} {edges} {escapes} {bytes}").trim_end());
         }
         self.receive(call, "01");
         self.add("# in a wrong stage 22 precedes them");
-        self.add(format!("{call} 4 1 2"));
+        self.add(format!("{call} {less} 1 2"));
         self.add("grow");
-        self.add(format!("{call} 4 1 2"));
+        self.add(format!("{call} {less} 1 2"));
         self.settle();
     }
 
     fn last_round(&mut self, call: &str) {
         self.add("# the last round number");
-        self.add("open 1 3");
+        self.open(1, 3);
         self.add("next 4294967294");
         self.receive(call, "10");
         self.receive(call, "10");
@@ -189,7 +271,7 @@ impl Script {
 
     fn stages(&mut self, call: &str) {
         self.add("# every call in every stage");
-        self.add("open 2 2");
+        self.open(2, 2);
         for _ in 0..3 {
             self.add("merging 1");
             self.add("grow");
@@ -203,159 +285,14 @@ impl Script {
         }
     }
 
-    /// Tries an edit with one of the round calls, which take turns.
-    fn try_edit(&mut self, edit: &str, back: &str) {
-        self.tried_raw = !self.tried_raw;
-        self.try_rounds(edit, back, &[ROUNDS[usize::from(self.tried_raw)]]);
-    }
-
-    /// Makes an edit, tries these round calls and every other call, and takes the edit back. Each call is refused 21, also
-    /// where the stage is wrong.
-    fn try_rounds(&mut self, edit: &str, back: &str, rounds: &[&str]) {
-        let before = self.image().clone();
-        self.add(edit);
-        let edited = self.image().clone();
-        let shape =
-            Shape::new(edited.height.into(), edited.distance.into()).or_else(|_| Shape::new(1, 2)).expect("a shape");
-        let zeros = "0".repeat(shape.detectors());
-        let rounds = rounds.iter().map(|round| format!("{round} {} {} {zeros}", shape.edges(), shape.detectors()));
-        for call in rounds.chain(["grow", "merging 1", "run 1"].map(String::from)) {
-            assert!(self.add(&call).contains(" refused 21"), "{edit}, {call}");
-            assert!(*self.image() == edited);
-        }
-        self.add(back);
-        assert!(*self.image() == before, "{back} takes {edit} back");
-    }
-
-    fn try_node(&mut self, i: usize, change: impl FnOnce(&mut Entry)) {
-        let old = self.image().nodes[i];
-        let mut new = old;
-        change(&mut new);
-        self.try_edit(&entry_line(i, new), &entry_line(i, old));
-    }
-
-    fn try_halves(&mut self, i: usize, halves: u8) {
-        let old = self.image().growth[i];
-        self.try_edit(&format!("halves {i} {halves}"), &format!("halves {i} {old}"));
-    }
-
-    fn try_flip(&mut self, i: usize) {
-        self.try_edit(&format!("flip {i} 1"), &format!("flip {i} 0"));
-    }
-
-    fn try_last(&mut self, i: usize) {
-        self.try_rounds(&format!("last {i} 1"), &format!("last {i} 0"), &ROUNDS);
-    }
-
-    fn ill_formed(&mut self) {
-        let mut random = Random::new(0x21, 0);
-        self.add("# windows that are not well-formed, 3 by 3 in each stage: every call is refused 21 and leaves the window as it is");
-        self.add("open 3 3");
-        for call in ["round", "raw", "round", "raw"] {
-            self.noise(call, &mut random, 30);
-            self.settle();
-        }
-        assert!(self.image().measured.contains(&true));
-        self.add("# at rest; the highest mark is fine");
-        self.each_fault();
-        let old = self.image().nodes[13];
-        self.add(entry_line(13, Entry { mark: Some(47), ..old }));
-        self.noise("round", &mut random, 30);
-        self.add("# to grow: a bottom detector's pointer may be D");
-        self.each_fault();
-        let old = self.image().nodes[25];
-        self.add(entry_line(25, Entry { pointer: 5, ..old }));
-        self.add("grow");
-        self.add("# merging: marks may be reset");
-        self.add("merging 1");
-        assert!(self.image().stage == Stage::Merging);
-        self.each_fault();
-        let old = self.image().nodes[5];
-        self.add(entry_line(5, Entry { mark: None, ..old }));
-        self.settle();
-        self.add("# 15 by 15 with all sheets there has no unused node, but slots without an edge");
-        self.add("open 15 15");
-        self.add("next 30");
-        // Growth or correction of each, for the script's length; 3 by 3 has both.
-        [3_600, 15].into_iter().for_each(|slot| self.try_halves(slot, 1));
-        [7_200, 3_599].into_iter().for_each(|slot| self.try_flip(slot));
-        self.try_node(3_599, |node| node.defect = true);
-        self.try_node(3_598, |node| node.pointer = 5);
-        self.try_node(3_598, |node| node.mark = Some(3_840));
-        self.add("# nor has it an unused entry of the last measured sheet; 1 by 2 has one that is used");
-        for line in ["last 209 1", "last 210 1", "grow", "open 1 2", "last 0 1", "grow"] {
-            self.add(line);
-        }
-        self.try_last(1);
-        self.receive("raw", "1");
-    }
-
-    // 3 by 3: a sheet has 12 nodes, 3 sheets, 48 numbers; the slots of 36 nodes are 108, 36 of each kind.
-    fn each_fault(&mut self) {
-        let (next, stage) = (self.image().next, self.image().stage);
-        // What one round call is tried with in one stage, the other is tried with in another.
-        self.tried_raw = stage == Stage::ToGrow;
-        self.add("# the shape out of range, or another than the entries are for");
-        for shape in ["0 3", "16 3", "3 0", "3 1", "3 16", "255 255", "2 3", "3 2"] {
-            self.try_edit(&format!("dims {shape}"), "dims 3 3");
-        }
-        self.add("# next below s");
-        for low in [0, 1, 2] {
-            self.try_edit(&format!("next {low}"), &format!("next {next}"));
-        }
-        self.add("# marks too high, and reset");
-        for (i, mark) in [(0, 48), (13, 48), (35, 49), (12, 65_535)] {
-            self.try_node(i, |node| node.mark = Some(mark));
-        }
-        if stage != Stage::Merging {
-            self.try_node(0, |node| node.mark = None);
-            self.try_node(34, |node| node.mark = None);
-        }
-        self.add("# pointers along no edge: N, S, D, U of a boundary, W and E out of the sheet, N and S, U at the top, D at the bottom");
-        let nodes = [[4, 7, 1, 13], [0, 4, 12, 24], [3, 7, 15, 35], [4, 7, 9, 34], [4, 7, 24, 27], [16, 19, 1, 10]];
-        for (pointer, nodes) in (1..).zip(nodes) {
-            nodes.into_iter().for_each(|i| self.try_node(i, |node| node.pointer = pointer));
-        }
-        [7, 255].into_iter().for_each(|pointer| self.try_node(5, |node| node.pointer = pointer));
-        if stage != Stage::ToGrow {
-            self.try_node(25, |node| node.pointer = 5);
-            self.try_node(34, |node| node.pointer = 5);
-        }
-        self.add("# defects on boundaries");
-        for i in [0, 3, 16, 35] {
-            self.try_node(i, |node| node.defect = true);
-        }
-        self.add("# growth above 2");
-        for (slot, halves) in [(0, 3), (1, 3), (14, 255), (106, 3)] {
-            self.try_halves(slot, halves);
-        }
-        self.add("# unused nodes: each field");
-        for i in [36, 3_599] {
-            self.try_node(i, |node| node.active = true);
-            self.try_node(i, |node| node.defect = true);
-            self.try_node(i, |node| node.unrooted = true);
-            self.try_node(i, |node| node.pointer = 1);
-            self.try_node(i, |node| node.mark = Some(1));
-            self.try_node(i, |node| node.mark = None);
-        }
-        self.add("# slots without an edge: behind the window, east of the sheet, south of a boundary and of the sheet, above the top and a boundary");
-        for slot in [108, 10_799, 3, 36, 45, 73, 84] {
-            self.try_halves(slot, 1);
-            self.try_flip(slot);
-        }
-        self.add("# the last measured sheet behind the detectors");
-        [6, 209].into_iter().for_each(|i| self.try_last(i));
-    }
-
     /// Well-formed windows that no session reaches, and a few others.
     fn edited(&mut self) {
         self.add("# windows with random entries, played on");
-        for (case, (height, distance)) in
-            [(1, 2), (1, 3), (2, 2), (3, 3), (2, 4), (4, 3)].into_iter().cycle().take(18).enumerate()
-        {
-            let mut random = Random::new(0xed17, case as u64);
+        let shapes = [(1, 2), (1, 3), (2, 2), (3, 3), (2, 4), (4, 3)];
+        for (case, (height, distance)) in self.cases(shapes.into_iter().cycle().take(12)) {
+            let mut random = self.random(0xed1a, case);
             let call = ROUNDS[case / 6 % 2];
-            self.add(format!("open {height} {distance}"));
+            self.open(height, distance);
             self.noise(call, &mut random, 40);
             self.settle();
             // Two sheets there, or all, with the one below them absent or not.
@@ -387,11 +324,11 @@ impl Script {
         let window = self.outline();
         let sheet = &window.sheet;
         let (depth, place) = (random.below(window.present()), random.below(sheet.nodes()));
-        let wild = random.one_in(100);
-        let (ways, slots): (Vec<u8>, Vec<usize>) = window
-            .links(depth, place)
-            .map(|(way, _, [layer, edge])| (way as u8 + 1, image::slot(sheet, layer, edge)))
-            .unzip();
+        let wild = random.one_in(50);
+        let slots: Vec<usize> =
+            window.links(depth, place).map(|(_, _, [layer, edge])| image::slot(sheet, layer, edge)).collect();
+        let pointers: Vec<u8> =
+            (0..WAYS as Way).filter(|&way| window.allows(depth, place, way)).map(|way| way + 1).collect();
         match random.below(9) {
             0..=2 => {
                 let slot = if wild { random.below(image::SLOTS) } else { random.pick(&slots) };
@@ -403,13 +340,13 @@ impl Script {
             }
             _ => {
                 let reset = self.image().stage == Stage::Merging && random.one_in(4);
-                let still = wild || random.one_in(ways.len() + 1);
+                let still = wild || random.one_in(pointers.len() + 1);
                 let numbers = (sheet.sheets() + 1) * sheet.nodes();
                 let node = Entry {
                     active: random.one_in(2),
                     defect: sheet.detector(place) && random.one_in(2),
                     unrooted: random.one_in(3),
-                    pointer: if still { random.below(8) as u8 * u8::from(wild) } else { random.pick(&ways) },
+                    pointer: if still { random.below(14) as u8 * u8::from(wild) } else { random.pick(&pointers) },
                     mark: if reset { None } else { Some(random.below(numbers) as u16) },
                 };
                 self.add(entry_line(image::entry(sheet, depth, place), node));
@@ -422,22 +359,22 @@ impl Script {
         let cases = [
             (1, 2, 50, 12),
             (1, 3, 10, 12),
-            (3, 3, 5, 12),
             (3, 3, 20, 12),
-            (1, 15, 10, 12),
+            (3, 3, 5, 12),
             (15, 2, 10, 12),
-            (4, 7, 3, 12),
+            (1, 15, 10, 12),
             (7, 6, 25, 12),
+            (4, 7, 3, 12),
             (9, 9, 1, 12),
-            (11, 10, 5, 12),
-            (15, 14, 2, 8),
-            (15, 15, 1, 12),
-            (15, 15, 50, 6),
+            (11, 10, 5, 8),
+            (15, 15, 50, 4),
+            (15, 15, 1, 6),
+            (15, 14, 2, 3),
         ];
-        for (case, (height, distance, percent, rounds)) in cases.into_iter().enumerate() {
-            let mut random = Random::new(0x5e55, case as u64);
+        for (case, (height, distance, percent, rounds)) in self.cases(cases) {
+            let mut random = self.random(0x5e55, case);
             self.add(format!("# {height} by {distance}, noise {percent} in 100"));
-            self.add(format!("open {height} {distance}"));
+            self.open(height, distance);
             for _ in 0..rounds {
                 self.noise("round", &mut random, percent);
                 self.settle();

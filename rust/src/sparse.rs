@@ -23,11 +23,9 @@ pub fn decode(input: &[u8]) -> Decoded {
 
 /// A spent round stops as a refusal does.
 fn rounds(input: &[u8], decoded: &mut Decoded) -> Result<(), Stop> {
-    let Done((height, distance), mut at) = streams::read_header(input, 0)?;
-    let mut window = Window::new(Shape::new(height, distance)?);
-    let mut result = vec![];
-    write_number(height, &mut result);
-    write_number(distance, &mut result);
+    let Done(name, mut at) = streams::read_header(input, 0)?;
+    let mut window = Window::new(Shape::new(name)?);
+    let mut result = streams::header_bytes(name);
     decoded.add(&result);
     while at < input.len() {
         window.advance();
@@ -88,7 +86,8 @@ fn write_leaving(window: &mut Window, out: &mut Vec<u8>) -> usize {
     let count: u32 = edges.iter().map(|word| word.count_ones()).sum();
     write_number(count, out);
     let mut free = 0;
-    for (start, mut bits) in (0..).step_by(64).zip(edges) {
+    for (start, &word) in (0..).step_by(64).zip(edges) {
+        let mut bits = word;
         while bits != 0 {
             let edge = start + bits.trailing_zeros();
             write_number(edge - free, out);

@@ -1,4 +1,4 @@
-//! Numbers, sheet lists, headers and records of both streams, written from document 01 alone.
+//! Numbers, sheet lists, headers and records of both streams, written from documents 01 and 02 alone.
 
 use std::ops::RangeInclusive;
 use Stop::{End, Refused, RefusedAt};
@@ -22,22 +22,39 @@ pub type Answer<T> = Result<Done<T>, Stop>;
 
 pub const HEIGHTS: RangeInclusive<u32> = 1..=15;
 pub const DISTANCES: RangeInclusive<u32> = 2..=15;
+/// Without the diagonals, and with them.
+pub const MODELS: RangeInclusive<u32> = 0..=1;
+
+/// The ranges and their refusals, in the order of a name.
+const RANGES: [(RangeInclusive<u32>, u8); 3] = [(HEIGHTS, 1), (DISTANCES, 2), (MODELS, 31)];
 
 /// The shape that every array of a window is made for.
-pub const LARGEST: Shape = Shape { height: *HEIGHTS.end() as usize, distance: *DISTANCES.end() as usize };
+pub const LARGEST: Shape =
+    Shape { height: *HEIGHTS.end() as usize, distance: *DISTANCES.end() as usize, model: *MODELS.end() as usize };
 
-/// A height and a distance in range.
-#[derive(Debug, Clone, Copy)]
+/// Bytes of a header: each of its numbers has one.
+pub const HEADER: usize = 3;
+
+/// Height, distance and model as a caller or a stream names them, in range or not.
+pub type Name = [u32; 3];
+
+/// A height, a distance and a model in range.
+#[derive(Debug, Clone, Copy, PartialEq, Eq, PartialOrd, Ord)]
 pub struct Shape {
     pub height: usize,
     pub distance: usize,
+    pub model: usize,
 }
 
 impl Shape {
-    pub fn new(height: u32, distance: u32) -> Result<Shape, Stop> {
-        within(height, HEIGHTS, 1)?;
-        within(distance, DISTANCES, 2)?;
-        Ok(Shape { height: height as usize, distance: distance as usize })
+    pub fn new(name: Name) -> Result<Shape, Stop> {
+        RANGES.into_iter().zip(name).try_for_each(|((range, refusal), n)| within(n, range, refusal))?;
+        let [height, distance, model] = name.map(|n| n as usize);
+        Ok(Shape { height, distance, model })
+    }
+
+    pub fn name(self) -> Name {
+        [self.height, self.distance, self.model].map(|n| n as u32)
     }
 
     /// Sheets of a window.
@@ -50,9 +67,12 @@ impl Shape {
         self.height * (self.distance - 1)
     }
 
-    /// Edges of a layer: along the rows, along the columns, to the sheet above.
+    /// Edges of a layer: along the rows, along the columns, to the sheet above; of model 1 also NU, EU and SEU.
     pub const fn edges(self) -> usize {
-        self.height * self.distance + (self.height - 1) * (self.distance - 1) + self.detectors()
+        let (h, d) = (self.height, self.distance);
+        let straight = h * d + (h - 1) * (d - 1) + h * (d - 1);
+        let diagonal = (h - 1) * (d - 1) + h * (d - 2) + (h - 1) * (d - 2);
+        straight + self.model * diagonal
     }
 }
 
@@ -106,16 +126,18 @@ pub fn read_list(src: &[u8], at: usize, out: &mut [u8]) -> Answer<()> {
     Ok(Done((), next))
 }
 
-pub fn read_header(src: &[u8], at: usize) -> Answer<(u32, u32)> {
-    let Done(height, next) = read_number(src, at)?;
-    within(height, HEIGHTS, 1)?;
-    let Done(distance, next) = read_number(src, next)?;
-    within(distance, DISTANCES, 2)?;
-    Ok(Done((height, distance), next))
+/// Each number is tested as soon as it is read.
+pub fn read_header(src: &[u8], at: usize) -> Answer<Name> {
+    let (mut name, mut next) = ([0; 3], at);
+    for (number, (range, refusal)) in name.iter_mut().zip(RANGES) {
+        Done(*number, next) = read_number(src, next)?;
+        within(*number, range, refusal)?;
+    }
+    Ok(Done(name, next))
 }
 
-pub fn read_round(height: u32, distance: u32, src: &[u8], at: usize, defects: &mut [u8]) -> Answer<()> {
-    let shape = Shape::new(height, distance)?;
+pub fn read_round(name: Name, src: &[u8], at: usize, defects: &mut [u8]) -> Answer<()> {
+    let shape = Shape::new(name)?;
     turned_back(at > src.len(), 10)?;
     turned_back(defects.len() != shape.detectors(), 3)?;
     if at == src.len() {
@@ -125,8 +147,8 @@ pub fn read_round(height: u32, distance: u32, src: &[u8], at: usize, defects: &m
 }
 
 /// The value is the count of merging steps.
-pub fn read_result(height: u32, distance: u32, src: &[u8], at: usize, [edges, escapes]: [&mut [u8]; 2]) -> Answer<u32> {
-    let shape = Shape::new(height, distance)?;
+pub fn read_result(name: Name, src: &[u8], at: usize, [edges, escapes]: [&mut [u8]; 2]) -> Answer<u32> {
+    let shape = Shape::new(name)?;
     turned_back(at > src.len(), 10)?;
     turned_back(edges.len() != shape.edges(), 5)?;
     turned_back(escapes.len() != shape.detectors(), 6)?;
@@ -141,31 +163,31 @@ pub fn read_result(height: u32, distance: u32, src: &[u8], at: usize, [edges, es
     Ok(Done(steps, next))
 }
 
-/// A whole stream: its height, its distance and how many rounds it has. `pass` gives the offset behind a round.
-fn scan(src: &[u8], pass: impl Fn(u32, u32, usize) -> Result<usize, Stop>) -> Answer<(u32, u32, usize)> {
-    let Done((height, distance), mut at) = read_header(src, 0)?;
+/// A whole stream: its shape's name and how many rounds it has. `pass` gives the offset behind a round.
+fn scan(src: &[u8], pass: impl Fn(Name, usize) -> Result<usize, Stop>) -> Answer<(Name, usize)> {
+    let Done(name, mut at) = read_header(src, 0)?;
     let mut rounds = 0;
     loop {
-        match pass(height, distance, at) {
+        match pass(name, at) {
             Ok(next) => (rounds, at) = (rounds + 1, next),
-            Err(End) => return Ok(Done((height, distance, rounds), at)),
+            Err(End) => return Ok(Done((name, rounds), at)),
             Err(refused) => return Err(refused),
         }
     }
 }
 
-pub fn scan_input(src: &[u8]) -> Answer<(u32, u32, usize)> {
-    scan(src, |height, distance, at| {
-        let mut defects = vec![0; Shape::new(height, distance)?.detectors()];
-        read_round(height, distance, src, at, &mut defects).map(|Done(_, next)| next)
+pub fn scan_input(src: &[u8]) -> Answer<(Name, usize)> {
+    scan(src, |name, at| {
+        let mut defects = vec![0; Shape::new(name)?.detectors()];
+        read_round(name, src, at, &mut defects).map(|Done(_, next)| next)
     })
 }
 
-pub fn scan_results(src: &[u8]) -> Answer<(u32, u32, usize)> {
-    scan(src, |height, distance, at| {
-        let shape = Shape::new(height, distance)?;
+pub fn scan_results(src: &[u8]) -> Answer<(Name, usize)> {
+    scan(src, |name, at| {
+        let shape = Shape::new(name)?;
         let (mut edges, mut escapes) = (vec![0; shape.edges()], vec![0; shape.detectors()]);
-        read_result(height, distance, src, at, [&mut edges, &mut escapes]).map(|Done(_, next)| next)
+        read_result(name, src, at, [&mut edges, &mut escapes]).map(|Done(_, next)| next)
     })
 }
 
@@ -187,6 +209,11 @@ pub fn list_bytes(bits: &[u8]) -> Vec<u8> {
     let before = std::iter::once(0).chain(set.iter().map(|place| place + 1));
     let skips = set.iter().zip(before).map(|(place, free)| place - free);
     std::iter::once(set.len()).chain(skips).flat_map(|n| number_bytes(n as u32)).collect()
+}
+
+/// A header's bytes.
+pub fn header_bytes(name: Name) -> Vec<u8> {
+    name.into_iter().flat_map(number_bytes).collect()
 }
 
 /// Puts a record at its offset, if the rest of the buffer holds it.
@@ -211,28 +238,21 @@ pub fn write_list(bits: &[u8], out: &mut [u8], at: usize) -> Answer<()> {
     put(&list_bytes(bits), out, at)
 }
 
-pub fn write_header(height: u32, distance: u32, out: &mut [u8], at: usize) -> Answer<()> {
-    Shape::new(height, distance)?;
-    put(&[number_bytes(height), number_bytes(distance)].concat(), out, at)
+pub fn write_header(name: Name, out: &mut [u8], at: usize) -> Answer<()> {
+    Shape::new(name)?;
+    put(&header_bytes(name), out, at)
 }
 
-pub fn write_round(height: u32, distance: u32, defects: &[u8], out: &mut [u8], at: usize) -> Answer<()> {
-    let shape = Shape::new(height, distance)?;
+pub fn write_round(name: Name, defects: &[u8], out: &mut [u8], at: usize) -> Answer<()> {
+    let shape = Shape::new(name)?;
     turned_back(at > out.len(), 10)?;
     turned_back(defects.len() != shape.detectors(), 3)?;
     write_list(defects, out, at)
 }
 
 /// The lists are the committed edges and the escaped defects.
-pub fn write_result(
-    height: u32,
-    distance: u32,
-    [edges, escapes]: [&[u8]; 2],
-    steps: u32,
-    out: &mut [u8],
-    at: usize,
-) -> Answer<()> {
-    let shape = Shape::new(height, distance)?;
+pub fn write_result(name: Name, [edges, escapes]: [&[u8]; 2], steps: u32, out: &mut [u8], at: usize) -> Answer<()> {
+    let shape = Shape::new(name)?;
     turned_back(at > out.len(), 10)?;
     turned_back(edges.len() != shape.edges(), 5)?;
     turned_back(escapes.len() != shape.detectors(), 6)?;

@@ -59,8 +59,8 @@ fn every_declared_function_is_called() {
 fn the_example_runs() {
     let ran = built_and_run("examples/session.c", "session", &["-std=c99"]);
     assert!(ran.status.success());
-    let expected = "1 by 3, 4 rounds\n2 steps, edges\n1 steps, edges\n4 steps, edges\n2 steps, edges 0\n\
-                    refused 7 at byte 3, 2 bytes written\n";
+    let expected = "1 by 3, model 0, 4 rounds\n2 steps, edges\n1 steps, edges\n4 steps, edges\n2 steps, edges 0\n\
+                    refused 7 at byte 4, 3 bytes written\n";
     assert_eq!(String::from_utf8_lossy(&ran.stdout), expected);
     let shown: String = expected.lines().map(|line| format!("    {line}\n")).collect();
     assert!(text("README.md").contains(&shown), "the README shows another output");
@@ -82,14 +82,14 @@ fn with_stack<R: Send + 'static>(name: &str, call: impl FnOnce() -> R + Send + '
 /// Every shape, with noise that fills the window, until rounds that were sent have left it.
 #[test]
 fn the_stack_suffices_to_decode() {
-    for (_, _, shape) in shapes() {
-        for chance in [10_000, 100_000, 500_000] {
-            let input = stream(shape, shape.sheets() + 4, Noise::Defects(chance), &mut Random::new(0x7374_6163, 0));
-            let decoded = decoder::decode(&input);
-            let mut out = vec![0; decoded.result.len()];
-            let (answer, out) = with_stack("BAIZERIDGE_DECODE_STACK", move || (proved::decode(&input, &mut out), out));
-            assert_eq!((answer, &out), ((DECODED, None, out.len()), &decoded.result));
-        }
+    for shape in shapes() {
+        // One chance in one model, the other one in the other.
+        let chance = [10_000, 500_000][(shape.height + shape.distance + shape.model) % 2];
+        let input = stream(shape, shape.sheets() + 4, Noise::Defects(chance), &mut Random::new(0x7374_6163, 0));
+        let decoded = decoder::decode(&input);
+        let mut out = vec![0; decoded.result.len()];
+        let (answer, out) = with_stack("BAIZERIDGE_DECODE_STACK", move || (proved::decode(&input, &mut out), out));
+        assert_eq!((answer, &out), ((DECODED, None, out.len()), &decoded.result));
     }
 }
 
@@ -97,26 +97,26 @@ fn the_stack_suffices_to_decode() {
 #[test]
 fn the_stack_suffices_to_read_and_write() {
     let (detectors, layer) = (LARGEST.detectors(), LARGEST.edges());
-    let (h, d) = (LARGEST.height as u32, LARGEST.distance as u32);
+    let name = LARGEST.name();
     let ones = (vec![1; detectors], vec![1; layer]);
     let ran = with_stack("BAIZERIDGE_STACK", move || {
         let (defects, edges) = ones;
         // A list has at most two bytes for each of its entries, and a few more.
         let mut out = vec![0; 3 * (detectors + layer)];
         let (mut to_defects, mut to_edges) = (vec![0; detectors], vec![0; layer]);
-        let Done((), header) = proved::write_header(h, d, &mut out, 0)?;
+        let Done((), header) = proved::write_header(name, &mut out, 0)?;
         proved::read_header(&out, 0)?;
-        let Done((), end) = proved::write_round(h, d, &defects, &mut out, header)?;
-        proved::read_round(h, d, &out, header, &mut to_defects)?;
+        let Done((), end) = proved::write_round(name, &defects, &mut out, header)?;
+        proved::read_round(name, &out, header, &mut to_defects)?;
         proved::scan_input(&out[..end])?;
-        let Done((), end) = proved::write_result(h, d, [&edges, &defects], u32::MAX, &mut out, header)?;
-        proved::read_result(h, d, &out, header, [&mut to_edges, &mut to_defects])?;
+        let Done((), end) = proved::write_result(name, [&edges, &defects], u32::MAX, &mut out, header)?;
+        proved::read_result(name, &out, header, [&mut to_edges, &mut to_defects])?;
         proved::scan_results(&out[..end])?;
         let Done((), end) = proved::write_list(&edges, &mut out, 0)?;
         proved::read_list(&out[..end], 0, &mut to_edges)?;
         proved::write_number(u32::MAX, &mut out, 0)?;
         proved::read_number(&out, 0)?;
-        proved::sizes(h, d);
+        proved::sizes(name);
         Ok::<_, Stop>((to_defects == defects, to_edges == edges))
     });
     assert_eq!(ran, Ok((true, true)));

@@ -20,8 +20,8 @@ use std::process::{self, Command, Stdio};
 use std::sync::atomic::{AtomicUsize, Ordering};
 
 /// Document 01's first session, and its result.
-const FIRST: [u8; 7] = [1, 3, 1, 0, 0, 0, 0];
-const FIRST_RESULT: [u8; 15] = [1, 3, 0, 0, 2, 0, 0, 1, 0, 0, 4, 1, 0, 0, 2];
+const FIRST: [u8; 8] = [1, 3, 0, 1, 0, 0, 0, 0];
+const FIRST_RESULT: [u8; 16] = [1, 3, 0, 0, 0, 2, 0, 0, 1, 0, 0, 4, 1, 0, 0, 2];
 
 /// Their numbers on Linux.
 const SIGPIPE: i32 = 13;
@@ -84,11 +84,14 @@ fn compared(input: &[u8]) -> Output {
 #[test]
 fn printed_sessions() {
     assert_eq!(run(&FIRST), decoded(&FIRST_RESULT));
-    let second = [[1, 3].as_slice(), &[0, 0, 2], &[0, 0, 5], &[0, 0, 1], &[1, 1, 0, 1]].concat();
-    assert_eq!(run(&[1, 3, 2, 0, 0, 0, 0, 0]), decoded(&second));
+    let second = [[1, 3, 0].as_slice(), &[0, 0, 2], &[0, 0, 5], &[0, 0, 1], &[1, 1, 0, 1]].concat();
+    assert_eq!(run(&[1, 3, 0, 2, 0, 0, 0, 0, 0]), decoded(&second));
     // 1 by 2, one defect: a tie, and west, edge 0, is committed.
-    let tie = [[1, 2].as_slice(), &[0, 0, 2], &[0, 0, 1], &[0, 0, 3], &[1, 0, 0, 2]].concat();
-    assert_eq!(run(&[1, 2, 1, 0, 0, 0, 0]), decoded(&tie));
+    let tie = [[1, 2, 0].as_slice(), &[0, 0, 2], &[0, 0, 1], &[0, 0, 3], &[1, 0, 0, 2]].concat();
+    assert_eq!(run(&[1, 2, 0, 1, 0, 0, 0, 0]), decoded(&tie));
+    // 2 by 3 of model 1: edge 16 is a diagonal.
+    let diagonal = [[2, 3, 1].as_slice(), &[0, 0, 2], &[0, 0, 2], &[0, 0, 5], &[1, 16, 0, 2]].concat();
+    assert_eq!(run(&[2, 3, 1, 1, 0, 1, 3, 0, 0]), decoded(&diagonal));
 }
 
 #[test]
@@ -100,17 +103,23 @@ fn refusals() {
     assert_eq!(run(&[1, 1]), stopped(&[], "refused 2"));
     assert_eq!(run(&[1, 16]), stopped(&[], "refused 2"));
     assert_eq!(run(&[0x80, 0]), stopped(&[], "refused 8"));
-    assert_eq!(run(&[1, 3]), decoded(&[1, 3]));
-    assert_eq!(run(&[1, 3, 1]), stopped(&[1, 3], "refused 7"));
-    assert_eq!(run(&[1, 3, 0x80, 0]), stopped(&[1, 3], "refused 8"));
-    assert_eq!(run(&[1, 3, 3]), stopped(&[1, 3], "refused 9"));
-    assert_eq!(run(&[1, 3, 1, 0, 1]), stopped(&[1, 3, 0, 0, 2], "refused 7"));
-    assert_eq!(run(&[1, 3, 1, 0, 0, 1, 2]), stopped(&[1, 3, 0, 0, 2, 0, 0, 1], "refused 9"));
+    assert_eq!(run(&[1, 3]), stopped(&[], "refused 7"));
+    assert_eq!(run(&[1, 3, 2]), stopped(&[], "refused 31"));
+    assert_eq!(run(&[1, 3, 0x80, 1]), stopped(&[], "refused 31"));
+    assert_eq!(run(&[1, 3, 0x80, 0]), stopped(&[], "refused 8"));
+    for model in [0, 1] {
+        assert_eq!(run(&[1, 3, model]), decoded(&[1, 3, model]));
+        assert_eq!(run(&[1, 3, model, 1]), stopped(&[1, 3, model], "refused 7"));
+        assert_eq!(run(&[1, 3, model, 0x80, 0]), stopped(&[1, 3, model], "refused 8"));
+        assert_eq!(run(&[1, 3, model, 3]), stopped(&[1, 3, model], "refused 9"));
+        assert_eq!(run(&[1, 3, model, 1, 0, 1]), stopped(&[1, 3, model, 0, 0, 2], "refused 7"));
+        assert_eq!(run(&[1, 3, model, 1, 0, 0, 1, 2]), stopped(&[1, 3, model, 0, 0, 2, 0, 0, 1], "refused 9"));
+    }
 }
 
 /// A 1 by 2 stream of exactly so many bytes; its last rounds are empty.
 fn of_length(length: usize) -> Vec<u8> {
-    let shape = Shape::new(1, 2).expect("a shape in range");
+    let shape = Shape { height: 1, distance: 2, model: 1 };
     let mut input = stream(shape, length / 2, Noise::Defects(300_000), &mut Random::new(0x6c65, 0));
     assert!(input.len() < length);
     input.resize(length, 0);
@@ -144,10 +153,10 @@ fn random_streams() {
     let shapes = shapes();
     let (mut whole, mut refused) = (0, 0);
     each_case(0x7072_6f67, 105, |case, random| {
-        let (_, _, shape) = shapes[case * 2 + random.below(2)];
+        let shape = shapes[case * 4 + random.below(4)];
         let chance = random.pick(&[1_000, 10_000, 30_000, 100_000, 500_000]);
         let rounds = 1 + 2_000 / (shape.height * shape.distance * shape.distance);
-        let input = stream(shape, rounds, Noise::Phenomenological(chance), random);
+        let input = stream(shape, rounds, Noise::Edges(chance), random);
         whole += usize::from(compared(&input).stderr.is_empty());
         refused += usize::from(compared(&random.damaged(&input)).stderr.starts_with("refused "));
     });
@@ -227,7 +236,7 @@ fn input_unread_behind_some_bytes() {
 #[test]
 fn unwritten_result() {
     let closed = || program_after("exec >&-");
-    for input in [FIRST.to_vec(), vec![1, 3], vec![1, 3, 1], of_length(LONGEST)] {
+    for input in [FIRST.to_vec(), vec![1, 3, 1], vec![1, 3, 1, 1], of_length(LONGEST)] {
         let unwritten = stopped(&[], "unwritten");
         for output in [writable("/dev/full"), readable("/dev/null")] {
             assert_eq!(written(ended(program(), file_of(&input), output)), unwritten);
@@ -292,7 +301,7 @@ fn result_lost_at_the_close() {
     write(&source, "int close(int descriptor) { return descriptor == 1 ? -1 : 0; }\n").expect("a file can be written");
     let built = Command::new("cc").args(["-shared", "-fPIC"]).arg(&source).arg("-o").arg(&library).status();
     assert!(built.expect("cc can be run").success());
-    for input in [FIRST.to_vec(), vec![1, 3, 1]] {
+    for input in [FIRST.to_vec(), vec![1, 3, 1, 1]] {
         let mut command = program();
         command.env("LD_PRELOAD", &library);
         let result = decoding::program::<Window>(&input).stdout;

@@ -21,7 +21,7 @@ fn top_and_measured(window: &Window) -> [Vec<u8>; 2] {
 /// The same measurements four times are the first session's defects: detector 0, then none.
 #[test]
 fn the_first_session_measured() {
-    let (mut window, mut edges, mut escapes) = opened(1, 3);
+    let (mut window, mut edges, mut escapes) = opened([1, 3, 0]);
     for (steps, committed) in [(2, [0, 0, 0, 0, 0]), (1, [0, 0, 0, 0, 0]), (4, [0, 0, 0, 0, 0]), (2, [1, 0, 0, 0, 0])] {
         assert_eq!(window.raw_round(&[1, 0], &mut edges, &mut escapes), Ok(()));
         assert_eq!((&edges[..], &escapes[..]), (&committed[..], &[0, 0][..]));
@@ -32,7 +32,7 @@ fn the_first_session_measured() {
 
 #[test]
 fn defects_are_the_changes() {
-    let (mut window, mut edges, mut escapes) = opened(1, 3);
+    let (mut window, mut edges, mut escapes) = opened([1, 3, 0]);
     assert_eq!(top_and_measured(&window), [[0, 0], [0, 0]]);
     for (bytes, defects) in [([0, 0], [0, 0]), ([1, 0], [1, 0]), ([1, 1], [0, 1]), ([0, 1], [1, 0]), ([1, 0], [1, 1])] {
         assert_eq!(window.raw_round(&bytes, &mut edges, &mut escapes), Ok(()));
@@ -40,7 +40,7 @@ fn defects_are_the_changes() {
         window.run(100).expect("a run");
     }
     // Row by row: row 0 column 2 and row 1 column 1, in sheets of 4 columns.
-    let (mut window, mut edges, mut escapes) = opened(2, 3);
+    let (mut window, mut edges, mut escapes) = opened([2, 3, 1]);
     assert_eq!(window.raw_round(&[0, 1, 1, 0], &mut edges, &mut escapes), Ok(()));
     let defects = window.layers[0].nodes.iter().enumerate().filter(|(_, node)| node.defect);
     assert_eq!(defects.map(|(node, _)| node).collect::<Vec<_>>(), [2, 5]);
@@ -48,7 +48,7 @@ fn defects_are_the_changes() {
 
 #[test]
 fn other_calls_leave_the_sheet() {
-    let (mut window, mut edges, mut escapes) = opened(1, 3);
+    let (mut window, mut edges, mut escapes) = opened([1, 3, 0]);
     window.raw_round(&[1, 1], &mut edges, &mut escapes).expect("a raw round");
     window.grow().expect("a growth");
     assert_eq!(window.merging(), Ok(true));
@@ -66,7 +66,7 @@ type RoundCall = fn(&mut Image, &[u8], &mut [u8], &mut [u8]) -> Result<(), u8>;
 
 /// At rest, all measurements 1.
 fn measured(shape: Shape) -> Image {
-    let mut image = Image::fresh(shape.height as u32, shape.distance as u32).expect("a shape in range");
+    let mut image = Image::fresh(shape.name()).expect("a shape in range");
     let (mut edges, mut escapes) = (vec![7; shape.edges()], vec![7; shape.detectors()]);
     image.raw_round(&vec![1; shape.detectors()], &mut edges, &mut escapes).expect("a raw round");
     assert!(matches!(image.run(1_000), Ok(Ran::Rest(_))));
@@ -77,8 +77,9 @@ fn measured(shape: Shape) -> Image {
 /// nothing changes.
 #[test]
 fn every_refusal_in_order() {
-    for (height, distance) in [(1, 2), (1, 3), (3, 3), (4, 5), (15, 15)] {
-        let shape = Shape::new(height, distance).expect("a shape in range");
+    let shapes = [(1, 2, 1), (1, 3, 0), (3, 3, 1), (3, 3, 0), (4, 5, 1), (15, 15, 0), (15, 15, 1)];
+    for (height, distance, model) in shapes {
+        let shape = Shape { height, distance, model };
         let rest = measured(shape);
         for faults in Faults::all(&[21, 22, 23, 3, 5, 6, 4]) {
             [true, false].into_iter().for_each(|longer| refused(rest.clone(), shape, &faults, longer));
@@ -116,7 +117,7 @@ fn refused(mut image: Image, shape: Shape, faults: &Faults, longer: bool) {
 #[test]
 fn unused_bits() {
     let stages = [Stage::Rest, Stage::ToGrow, Stage::Merging];
-    for (case, (_, _, shape)) in shapes().into_iter().enumerate() {
+    for (case, shape) in shapes().into_iter().enumerate() {
         let unused = shape.detectors()..DETECTORS;
         let mut image = measured(shape);
         for (turn, bit) in [unused.start, unused.start.midpoint(DETECTORS), DETECTORS - 1].into_iter().enumerate() {
@@ -194,20 +195,20 @@ fn raw_lists_answer_as_plain_ones() {
     let mut met = Met::default();
     let shapes = shapes();
     each_case(0x6c69_7374, shapes.len(), |case, random| {
-        let (_, _, shape) = shapes[case];
+        let shape = shapes[case];
         let (h, d) = (shape.height, shape.distance);
-        // The last shape is always played.
-        if (30 - h - d) % (1 + h * (d + 1) * shape.sheets() / 100) > 0 {
+        // The last shape is always played, and of both models.
+        if (30 - h - d) % (1 + h * (d + 1) * shape.sheets() / 50) > 0 {
             return;
         }
-        for _ in 0..1 + 20 / (h * d) {
+        for _ in 0..1 + 10 / (h * d) {
             let (plain, all) = (random_list(shape, random), random.one_in(2));
             let raw = raw_list(&plain, || all || random.one_in(2));
             let written = play_both(&plain, &raw);
             met.note(shape, &written.lines().collect::<Vec<_>>());
         }
     });
-    met.expect(65, 15);
+    met.expect(70, 15);
 }
 
 /// Plays a list with plain rounds, and the same with raw ones; what the second wrote.
@@ -236,10 +237,10 @@ fn play_both(plain: &str, raw: &str) -> String {
 #[test]
 fn the_program_plays_raw_lists() {
     let mut met = Met::default();
-    let large = [(15, 15), (9, 10), (4, 13)];
-    each_case(0x7072_6f67, large.len(), |case, random| {
-        let (height, distance) = large[case];
-        let (shapes, script) = random_script(Shape { height, distance }, random);
+    let large = [(15, 15, 1), (9, 10, 0), (4, 13, 1)];
+    each_case(0x7072_6f68, large.len(), |case, random| {
+        let (height, distance, model) = large[case];
+        let (shapes, script) = random_script(Shape { height, distance, model }, random);
         let written = String::from_utf8(repository::run("replay", script.as_bytes())).expect("its lines are text");
         let expected = replay::replay(&script);
         for (line, (written, expected)) in written.lines().zip(expected.lines()).enumerate() {
@@ -261,8 +262,8 @@ fn the_program_plays_raw_lists() {
 /// and of small ones. The shape of each three, and the script.
 fn random_script(large: Shape, random: &mut Random) -> (Vec<Shape>, String) {
     let (mut played, mut script) = (vec![], String::new());
-    let (_, _, any) = random.pick(&shapes());
-    let small = [0; 3].map(|_| Shape { height: 1 + random.below(3), distance: 2 + random.below(3) });
+    let any = random.pick(&shapes());
+    let small = [0, 1, 1].map(|model| Shape { height: 1 + random.below(3), distance: 2 + random.below(3), model });
     for shape in [large, any].into_iter().chain(small) {
         let plain = random_list(shape, random);
         let (raw, mixed) = (raw_list(&plain, || true), raw_list(&plain, || random.one_in(2)));

@@ -1,11 +1,11 @@
-use baizeridge_tests::cases::{shapes, WILD};
+use baizeridge_tests::cases::{shapes, WILD, WILD_MODELS};
 use baizeridge_tests::decoder::Sheet;
 use baizeridge_tests::proved::sizes;
-use baizeridge_tests::streams::Shape;
+use baizeridge_tests::streams::{Name, Shape, MODELS};
 
 /// By the sheet that the second decoder builds; none where the shape is refused.
-fn counted(height: u32, distance: u32) -> [usize; 3] {
-    let Ok(shape) = Shape::new(height, distance) else { return [0; 3] };
+fn counted(name: Name) -> [usize; 3] {
+    let Ok(shape) = Shape::new(name) else { return [0; 3] };
     let sheet = Sheet::new(shape);
     let detectors = (0..sheet.nodes()).filter(|&node| sheet.detector(node)).count();
     [sheet.nodes() * sheet.sheets(), detectors, sheet.spans.len()]
@@ -20,7 +20,20 @@ fn numbers() -> impl Iterator<Item = u32> {
 fn sizes_of_every_shape() {
     for height in numbers() {
         for distance in numbers() {
-            assert_eq!(sizes(height, distance), counted(height, distance), "{height} by {distance}");
+            for model in MODELS.chain([WILD_MODELS[distance as usize % 8]]) {
+                let name = [height, distance, model];
+                assert_eq!(sizes(name), counted(name), "{name:?}");
+            }
+        }
+    }
+}
+
+#[test]
+fn sizes_of_every_model() {
+    for (height, distance) in [(1, 2), (3, 3), (15, 15), (0, 3), (1, 1)] {
+        for model in numbers().chain(WILD_MODELS) {
+            let name = [height, distance, model];
+            assert_eq!(sizes(name), counted(name), "{name:?}");
         }
     }
 }
@@ -56,15 +69,20 @@ fn nodes_by_the_table() {
     for height in numbers() {
         for distance in numbers() {
             let nodes = listed(height, distance);
-            assert_eq!(sizes(height, distance)[0], nodes.unwrap_or(0), "{height} by {distance}");
+            for model in MODELS {
+                assert_eq!(sizes([height, distance, model])[0], nodes.unwrap_or(0), "{height} by {distance}");
+            }
             accepted += usize::from(nodes.is_some());
         }
     }
-    assert_eq!([accepted, shapes().len()], [210; 2]);
+    assert_eq!([2 * accepted, shapes().len()], [420; 2]);
 }
 
 #[test]
 fn printed_sizes() {
-    assert_eq!([(1, 2), (3, 3), (15, 15)].map(|(h, d)| sizes(h, d)[0]), [9, 36, 3600]);
-    assert_eq!(sizes(3, 3)[2], 19);
+    for model in MODELS {
+        assert_eq!([(1, 2), (3, 3), (15, 15)].map(|(h, d)| sizes([h, d, model])[0]), [9, 36, 3600]);
+    }
+    assert_eq!([0, 1, 2].map(|model| sizes([3, 3, model])[2]), [19, 28, 0]);
+    assert_eq!([0, 1, 2].map(|model| sizes([15, 15, model])[2]), [631, 1_204, 0]);
 }

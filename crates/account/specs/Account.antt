@@ -1,6 +1,7 @@
 -- THE ACCOUNT OF A DECODING: between the bytes that go in and the bytes that are written for them no defect is lost. Of every round that has left
 -- the window the two streams alone account for every defect (`settled`); of the others they do so together with what the window still holds
--- (`conserved`). What is written reads back as the results that this speaks of, and the law's own calls made them. Assumes nothing.
+-- (`conserved`). What is written reads back as the results that this speaks of, and the law's own calls made them. Edges and calls are by the table
+-- of steps of the model that the streams name in their header. Assumes nothing.
 use Prim.Native.Nat.{ℕ, zero, suc, _+_, _-_, _*_, _%_, _≤_, _<_}
 use mathlib.Core.Path.{_≡_}
 use mathlib.Core.Bool.{Bool, true, _&&_}
@@ -11,6 +12,7 @@ use Rattle.refusal.specs.Answer.{done, valueOr}
 use Rattle.refusal.specs.Bytes.{Bytes}
 use Rattle.shape.specs.Sizes.{sheetsOf}
 use Rattle.steps.specs.Steps.{Table}
+use Rattle.steps.specs.Models.{ofModel}
 use Rattle.layers.specs.Layers.{edgeOf}
 use Rattle.shape.specs.declared.Shape.{Shape}
 use Rattle.record.specs.Records.{header, headerAt, Result}
@@ -53,10 +55,11 @@ module _ (output : Stream Result) where
   abbrev pub committedIn : ℕ → ℕ → Bool
   committedIn n i = eqb (getD (getD (output .records) n noResult .edges) i 0) 1
 
-  -- the number of edges in the output that end at a detector
-  abbrev pub endingIn : Table → Spot → ℕ
-  endingIn T a =
+  -- the number of edges in the output that end at a detector, by the model in the header
+  abbrev pub endingIn : Spot → ℕ
+  endingIn a =
       let sh = output .shape in
+      let T = ofModel (sh .model) in
       sum (length (output .records)) (λ n. sum (edgesIn sh) (λ i. bit (committedIn n i && ends T n (edgeOf T (sh .height) (sh .distance) i) a)))
 
   -- the output has a detector among the escaped
@@ -68,9 +71,11 @@ unfoldable pub callsOf : Shape → List (List ℕ) → List Call
 callsOf sh [] = []
 callsOf sh (bytes ∷ rounds) = round bytes (replicate {A = ℕ} (edgesIn sh) 0) (replicate {A = ℕ} (detectorsIn sh) 0) ∷ run budget ∷ callsOf sh rounds
 
--- the window after them, and their receipts
-abbrev pub playedOf : Table → Stream (List ℕ) → Played
-playedOf T input = play T (start (freshWindow T (input .shape))) (callsOf (input .shape) (input .records))
+-- the window after them, and their receipts, by the model in the header
+abbrev pub playedOf : Stream (List ℕ) → Played
+playedOf input =
+    let T = ofModel (input .shape .model) in
+    play T (start (freshWindow T (input .shape))) (callsOf (input .shape) (input .records))
 
 -- the receipt of a round and its result: the bytes of the one, the edges and the escapes of the other
 abbrev pub receiptWith : List ℕ → Result → Receipt
@@ -95,9 +100,11 @@ module _ (T : Table) where
   countsOf w [] = []
   countsOf w (c ∷ cs) = countOf w c ++ countsOf (returned T w c) cs
 
--- of the law's calls for an input
-abbrev pub countsFor : Table → Stream (List ℕ) → List ℕ
-countsFor T input = countsOf T (freshWindow T (input .shape)) (callsOf (input .shape) (input .records))
+-- of the law's calls for an input, by the model in the header
+abbrev pub countsFor : Stream (List ℕ) → List ℕ
+countsFor input =
+    let T = ofModel (input .shape .model) in
+    countsOf T (freshWindow T (input .shape)) (callsOf (input .shape) (input .records))
 
 abbrev pub stepsIn : Result → ℕ
 stepsIn r = r .steps
@@ -109,19 +116,21 @@ abbrev pub firstOf : ℕ → Stream (List ℕ) → Stream (List ℕ)
 firstOf n t = record { shape = t .shape; records = take n (t .records) }
 
 -- of the bytes s, and of what was written for them and how it ended
-pub record Account (T : Table) (s : List ℕ) (d : Decoded) : Type 0 where
+pub record Account (s : List ℕ) (d : Decoded) : Type 0 where
   -- The rounds that were decoded, and their results.
   pub input : Stream (List ℕ)
   pub output : Stream Result
   -- NO DEFECT IS LOST. At every detector of every supplied round that has left the window (after k results rounds 0 to k - 1 have): the defect
   -- that the input has there is, modulo 2, the number of edges in the output that end there, plus one if the output has it among the escaped.
   pub settled : (a : Spot) → a .round < length (output .records) → SuppliedDetector (output .shape) a
-      → receivedIn input a % 2 ≡ (endingIn output T a + bit (escapedIn output a)) % 2
+      → receivedIn input a % 2 ≡ (endingIn output a + bit (escapedIn output a)) % 2
   -- At every detector of every supplied round, in the window or not: the same, plus the number of pending edges that end there, plus one if a
   -- defect stands there now, in the window that the law's calls for the input leave.
   pub conserved : (a : Spot) → a .round < sheetsOf (input .shape .distance) + length (input .records) → SuppliedDetector (input .shape) a
       → receivedIn input a % 2
-      ≡ (endingIn output T a + ending T (playedOf T input) (pending T (playedOf T input)) a + bit (standing (playedOf T input) a) + bit (escapedIn output a)) % 2
+      ≡ (endingIn output a + ending (ofModel (input .shape .model)) (playedOf input) (pending (ofModel (input .shape .model)) (playedOf input)) a
+      + bit (standing (playedOf input) a)
+      + bit (escapedIn output a)) % 2
   -- The results of absent rounds have nothing.
   pub absent : (n : ℕ) → n < sheetsOf (output .shape .distance) → (i : ℕ)
       → (getD (getD (output .records) n noResult .edges) i 0 ≡ 0) × (getD (getD (output .records) n noResult .escapes) i 0 ≡ 0)
@@ -133,18 +142,18 @@ pub record Account (T : Table) (s : List ℕ) (d : Decoded) : Type 0 where
   pub remaining : List ℕ
   pub reads : s ≡ inputBytes input ++ remaining
   pub input-fits : InputFits input
-  -- Both are of one shape, and there is a result for each round.
+  -- Both are of one shape, the model in it, and there is a result for each round.
   pub shape : output .shape ≡ input .shape
   pub each : length (output .records) ≡ length (input .records)
   -- If s is an input stream, the input is its first rounds, one for each result; if the decoding finished, s is one, and the input is all of it.
   pub front : (t : Stream (List ℕ)) (end : ℕ) → inputOf s ≡ done t end → input ≡ firstOf (length (output .records)) t
   pub whole : d .line ≡ finished → inputOf s ≡ done input (length s)
   -- BY THE LAW'S CALLS. Those for the input leave the output's edges and escapes in their receipts, one for each round, so that none was refused;
-  -- their runs count the output's steps; they leave the window at rest; and the law holds of them.
-  pub receipts : playedOf T input .receipts ≡ receiptsOf (input .records) (output .records)
-  pub steps : countsFor T input ≡ map stepsIn (output .records)
-  pub rests : isRest (playedOf T input .window .stage) ≡ true
-  pub law : Law T (freshWindow T (input .shape)) (playedOf T input)
+  -- their runs count the output's steps; they leave the window at rest; and the law holds of them, by the model in the header.
+  pub receipts : playedOf input .receipts ≡ receiptsOf (input .records) (output .records)
+  pub steps : countsFor input ≡ map stepsIn (output .records)
+  pub rests : isRest (playedOf input .window .stage) ≡ true
+  pub law : Law (ofModel (input .shape .model)) (freshWindow (ofModel (input .shape .model)) (input .shape)) (playedOf input)
 
 -- A decoding that is resumed n times where it stopped, each time with an empty buffer of the same size, as the program does it
 unfoldable pub resumedFrom : Table → List ℕ → ℕ → ℕ → Window → ℕ → ℕ → Rounds
@@ -153,17 +162,18 @@ resumedFrom T s size (suc n) w at to =
     let r = rounds T s size w at to in
     decoding.after (r .output) (resumedFrom T s size n (r .window) (r .next) 0)
 
--- Where the decoding hands out its window, that is the window of the account
-pub record WindowAccount (T : Table) (s : List ℕ) (sh : Shape) (r : Rounds) : Type 0 where
-  pub account : Account T s (behind (header sh) r)
-  pub window : playedOf T (account .input) .window ≡ r .window
+-- Where the decoding hands out its window, that is the window of the account, and it has the header's shape: by its model the next piece is resumed
+pub record WindowAccount (s : List ℕ) (sh : Shape) (r : Rounds) : Type 0 where
+  pub account : Account s (behind (header sh) r)
+  pub window : playedOf (account .input) .window ≡ r .window
+  pub shape : r .window .shape ≡ sh
 
--- WHICH DECODINGS have an account; s is a list of bytes, each below 256
-pub record Accounts (T : Table) : Type 0 where
+-- WHICH DECODINGS have an account, whatever their model; s is a list of bytes, each below 256
+pub record Accounts : Type 0 where
   -- Of any bytes, into a buffer of any size, however it ends, if anything was written;
-  pub account : (s : List ℕ) (size : ℕ) → Bytes s → 0 < length (decoded T s size .output) → Account T s (decoded T s size)
+  pub account : (s : List ℕ) (size : ℕ) → Bytes s → 0 < length (decoded s size .output) → Account s (decoded s size)
   -- and something was, if it finished.
-  pub finishes : (s : List ℕ) (size : ℕ) → decoded T s size .line ≡ finished → 0 < length (decoded T s size .output)
-  -- Of any bytes that begin with a header, decoded in pieces.
+  pub finishes : (s : List ℕ) (size : ℕ) → decoded s size .line ≡ finished → 0 < length (decoded s size .output)
+  -- Of any bytes that begin with a header, decoded in pieces by the model in it.
   pub pieces : (s : List ℕ) (size n : ℕ) → Bytes s → (sh : Shape) (next : ℕ) → headerAt s 0 ≡ done sh next
-      → WindowAccount T s sh (resumedFrom T s size n (freshWindow T sh) next (length (header sh)))
+      → WindowAccount s sh (resumedFrom (ofModel (sh .model)) s size n (freshWindow (ofModel (sh .model)) sh) next (length (header sh)))

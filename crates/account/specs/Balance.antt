@@ -10,20 +10,20 @@ use lib.ListN.{length, getD, List·getD-eq-default}
 use Rattle.shape.specs.Sizes.{inRange, sheetsOf}
 use Rattle.steps.specs.Steps.{Table, step, namer}
 use Rattle.steps.specs.Suited.{Suited}
+use Rattle.steps.specs.Models.{ofModel, suited-model}
 use Rattle.shape.specs.Ranges.{Ranged, halves, ranged}
 use Rattle.layers.specs.Layers.{edgeOf, layerEdges}
+use Rattle.layers.specs.Document.{count-model}
 use Rattle.layers.specs.declared.Edge.{Edge}
 use Rattle.shape.specs.declared.Shape.{Shape}
-use Rattle.record.specs.Records.{Result}
+use Rattle.record.specs.Records.{IsShape, Result}
 use Rattle.trip.specs.Streams.{Stream}
-use Rattle.trip.specs.Fits.{InRange, edgesIn}
 use Rattle.window.specs.Lists.{bit}
 use Rattle.window.specs.LawsLists.{and-not}
 use Rattle.law.specs.Law.{Receipt, Played, NothingLeft, AbsentEmpty, noReceipt, Spot, ends, sum, height, distance, sheets, last, receipt, received, committed, escaped, inWindow, standing, Detector, pending, ending, Conserved}
 use Rattle.law_holds.specs.Layered.{layered}
 use Rattle.law.specs.Bits.{refuted}
 use Rattle.law.specs.Spots.{ends-at, window-in, not-in-window}
-use Rattle.decoding.specs.Lengths.{LongAs01}
 use Rattle.account.specs.Account.{receiptWith, receiptsOf, SuppliedDetector, entryIn, receivedIn, noResult, committedIn, escapedIn, endingIn}
 use Rattle.account.specs.Sums.{sum-same, sum-none, sum-less}
 
@@ -48,8 +48,11 @@ made-long (bytes ∷ rounds) (r ∷ results) e = ap suc (made-long rounds result
 no-bit : (b : Bool) → b ≡ false → bit b ≡ 0
 no-bit b e = ap bit e
 
-module _ (T : Table) (K : LongAs01 T) (p : Played) (sh : Shape) (rounds : List (List ℕ)) (results : List Result) (shape : p .window .shape ≡ sh)
+module _ (p : Played) (sh : Shape) (rounds : List (List ℕ)) (results : List Result) (shape : p .window .shape ≡ sh)
     (receipts : p .receipts ≡ receiptsOf rounds results) (each : length results ≡ length rounds) where
+  abbrev T : Table
+  T = ofModel (sh .model)
+
   abbrev input : Stream (List ℕ)
   input = record { shape = sh; records = rounds }
 
@@ -81,20 +84,21 @@ module _ (T : Table) (K : LongAs01 T) (p : Played) (sh : Shape) (rounds : List (
 
   module _ (a : Spot) where
     abbrev inLayer : Shape → ℕ → ℕ
-    inLayer x n = sum (edgesIn x) (λ i. bit (committedIn output n i && ends T n (edgeOf T (x .height) (x .distance) i) a))
+    inLayer x n = sum (layerEdges T (x .height) (x .distance)) (λ i. bit (committedIn output n i && ends T n (edgeOf T (x .height) (x .distance) i) a))
 
-    ending-is : ending T p (committed p) a ≡ endingIn output T a
+    ending-is : ending T p (committed p) a ≡ endingIn output a
     ending-is =
         sum-same _ (inLayer (p .window .shape)) (last p + 1) (λ n l.
         sum-same _ (λ i. bit (committedIn output n i && ends T n (edgeOf T (height p) (distance p) i) a)) (layerEdges T (height p) (distance p)) (λ i m.
-        ap (λ (b : Bool). bit (b && ends T n (edgeOf T (height p) (distance p) i) a)) (committed-is n i))
-        ∙ ap (λ (E : ℕ). sum E (λ i. bit (committedIn output n i && ends T n (edgeOf T (height p) (distance p) i) a))) (K (height p) (distance p)))
+        ap (λ (b : Bool). bit (b && ends T n (edgeOf T (height p) (distance p) i) a)) (committed-is n i)))
         ∙ ap (λ (x : Shape). sum (last p + 1) (inLayer x)) shape
         ∙ sum-less (inLayer sh) (length results) (last p + 1) (let k = long in omega arith) (λ n l.
-        sum-none _ (edgesIn sh) (λ i m. no-bit _ (and-not _ (ends T n (edgeOf T (sh .height) (sh .distance) i) a) (none-committed n i l))))
+        sum-none _ (layerEdges T (sh .height) (sh .distance)) (λ i m. no-bit _ (and-not _ (ends T n (edgeOf T (sh .height) (sh .distance) i) a) (none-committed n i l))))
+        ∙ ap (λ (E : ℕ). sum (length results) (λ n. sum E (λ i. bit (committedIn output n i && ends T n (edgeOf T (sh .height) (sh .distance) i) a))))
+        (count-model (sh .model) (sh .height) (sh .distance))
 
   pub in-streams : Conserved T p → (a : Spot) → a .round < sheetsOf (sh .distance) + length rounds → SuppliedDetector sh a
-      → receivedIn input a % 2 ≡ (endingIn output T a + ending T p (pending T p) a + bit (standing p a) + bit (escapedIn output a)) % 2
+      → receivedIn input a % 2 ≡ (endingIn output a + ending T p (pending T p) a + bit (standing p a) + bit (escapedIn output a)) % 2
   in-streams c a l i =
       let k = long in
       let e : p .window .shape .distance ≡ sh .distance = ap (λ (x : Shape). x .distance) shape in
@@ -112,18 +116,19 @@ module _ (T : Table) (K : LongAs01 T) (p : Played) (sh : Shape) (rounds : List (
 
   -- WHAT HAS LEFT THE WINDOW: nothing stands there, and no edge that is pending ends there
 
-  module _ (S : Suited T) (range : InRange sh) (a : Spot) (l : a .round < length rounds) where
+  module _ (range : IsShape sh) (a : Spot) (l : a .round < length rounds) where
     none-standing : standing p a ≡ false
     none-standing = let k = long in and-not _ _ (not-in-window p (a .round) (omega arith))
 
     ranged-p : Ranged (height p) (distance p)
-    ranged-p = ranged (height p) (distance p) (ap (λ (x : Shape). inRange (x .height) (x .distance)) shape ∙ range)
+    ranged-p = ranged (height p) (distance p) (ap (λ (x : Shape). inRange (x .height) (x .distance)) shape ∙ range .sizes)
 
     none-pending : (n i : ℕ) → i < layerEdges T (height p) (distance p) → pending T p n i && ends T n (edgeOf T (height p) (distance p) i) a ≡ true → ⊥
     none-pending n i m e =
         let x = halves (pending T p n i) _ e in
         let w = window-in p n (halves (inWindow p n) _ (halves _ _ (x .0) .0) .0) in
         let edge : Edge = edgeOf T (height p) (distance p) i in
+        let S : Suited T = suited-model (sh .model) in
         let up = S .upwards (edge .kind) (layered T S .kind (height p) (distance p) i ranged-p m) in
         let k = long in
         ⊎-elim (λ q. let r : n ≡ a .round = ap (λ (b : Spot). b .round) q in omega arith)
@@ -134,8 +139,8 @@ module _ (T : Table) (K : LongAs01 T) (p : Played) (sh : Shape) (rounds : List (
     no-ending =
         sum-none _ (last p + 1) (λ n j. sum-none _ (layerEdges T (height p) (distance p)) (λ i m. no-bit _ (refuted _ (none-pending n i m))))
 
-    pub alone : Conserved T p → SuppliedDetector sh a → receivedIn input a % 2 ≡ (endingIn output T a + bit (escapedIn output a)) % 2
+    pub alone : Conserved T p → SuppliedDetector sh a → receivedIn input a % 2 ≡ (endingIn output a + bit (escapedIn output a)) % 2
     alone c i =
         in-streams c a (omega arith) i
-        ∙ ap₂ (λ (n : ℕ) (b : Bool). (endingIn output T a + n + bit b + bit (escapedIn output a)) % 2) no-ending none-standing
-        ∙ ap (λ (n : ℕ). n % 2) (let z : endingIn output T a + 0 + 0 + bit (escapedIn output a) ≡ endingIn output T a + bit (escapedIn output a) = omega arith in z)
+        ∙ ap₂ (λ (n : ℕ) (b : Bool). (endingIn output a + n + bit b + bit (escapedIn output a)) % 2) no-ending none-standing
+        ∙ ap (λ (n : ℕ). n % 2) (let z : endingIn output a + 0 + 0 + bit (escapedIn output a) ≡ endingIn output a + bit (escapedIn output a) = omega arith in z)

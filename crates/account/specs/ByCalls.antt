@@ -1,7 +1,7 @@
 -- ONE RECORD that is written: the calls that made it, and what they leave. Assumes nothing.
 use Prim.Native.Nat.{ℕ, zero, suc, _+_, _≤_}
 use native.Mathlib.Omega.{arith}
-use mathlib.Core.Path.{_≡_, refl, sym, _∙_, ap, subst}
+use mathlib.Core.Path.{_≡_, refl, sym, _∙_, ap}
 use mathlib.Core.Bool.{Bool, true, false, not}
 use mathlib.Core.List.{List}
 use borrow.Author.Tests.{not-true}
@@ -15,9 +15,10 @@ use Rattle.list.specs.Sheet.{listAt}
 use Rattle.list.specs.Trip.{ListWrites, list-writes}
 use Rattle.shape.specs.Choice.{if}
 use Rattle.steps.specs.Steps.{Table}
+use Rattle.layers.specs.Layers.{layerEdges}
 use Rattle.shape.specs.declared.Shape.{Shape}
 use Rattle.record.specs.Records.{roundAt, Result, result}
-use Rattle.trip.specs.Fits.{RecordFits}
+use Rattle.trip.specs.Fits.{RecordFits, detectorsIn, edgesIn}
 use Rattle.window.specs.Window.{isRest, isToGrow}
 use Rattle.window.specs.Round.{rounded, committedEdges, escapedDefects}
 use Rattle.window.specs.Grow.{grown}
@@ -30,7 +31,7 @@ use Rattle.window.specs.declared.Window.{Window}
 use Rattle.closure.specs.Done.{accepted, staged}
 use Rattle.closure.specs.Run.{run-keeps}
 use Rattle.decoding.specs.Decoding.{budget, Turn, wrote, turnAt, recordAt}
-use Rattle.decoding.specs.Lengths.{LongAs01, count-most}
+use Rattle.decoding.specs.Lengths.{count-most}
 use Rattle.decoding.specs.LawsTurn.{detectors, edges, onRan, onRound, onBytes, turn-steps, committed-long, committed-bits, escaped-long, escaped-bits}
 use Rattle.decoding.specs.LawsDecoding.{record-written}
 
@@ -143,17 +144,16 @@ module _ (T : Table) (s : List ℕ) (w : Window) (at : ℕ) (bytes : List ℕ) (
         ∙ ap (λ (r : Ran). isRest (r .window .stage)) (sym (staged-run .1))
         ∙ ran-rests T (p .round .window) (ap (λ (r : Ran). r .rest) (staged-run .1) ∙ p .rests)
 
-    pub by-fits : LongAs01 T → RecordFits sh resultBy
+    pub by-fits : layerEdges T (sh .height) (sh .distance) ≡ edgesIn sh → RecordFits sh resultBy
     by-fits K =
         let a : p .round .edges ≡ committedEdges T w = ap (λ (r : Round). r .edges) (sym gave) in
         let b : p .round .escapes ≡ escapedDefects w = ap (λ (r : Round). r .escapes) (sym gave) in
         let c : p .run .count ≡ ran T budget (p .round .window) .count = ap (λ (r : Ran). r .count) (sym (staged-run .1)) in
-        subst (λ (x : Shape). RecordFits x resultBy) same
-        (record {
-          edges = record { size = rw a (committed-long T w ∙ K (w .shape .height) (w .shape .distance)); bits = rw a (committed-bits T w) };
-          escapes = record { size = rw b (escaped-long w); bits = rw b (escaped-bits w) };
+        record {
+          edges = record { size = rw a (committed-long T w ∙ ap (λ (x : Shape). layerEdges T (x .height) (x .distance)) same ∙ K); bits = rw a (committed-bits T w) };
+          escapes = record { size = rw b (escaped-long w ∙ ap detectorsIn same); bits = rw b (escaped-bits w) };
           steps = rw c (ran-count T (p .round .window));
-        })
+        }
 
   pub by-sheet : Bytes s → ListWrites s (detectors w) at (p .sheet) next
   by-sheet b = list-writes s (detectors w) at (p .sheet) next b (took (ltb at (length s)) (listAt s (detectors w) at) ended (p .sheet) next refl (p .reads) .1)

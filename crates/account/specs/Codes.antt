@@ -10,11 +10,11 @@ use Rattle.refusal.specs.Laws.{undone}
 use Rattle.number.specs.Number.{largest, most, groupAt, inSlice, numberAt}
 use Rattle.list.specs.Sheet.{entriesAt, listAt}
 use Rattle.shape.specs.Choice.{if}
-use Rattle.shape.specs.Sizes.{heightOk, distanceOk}
+use Rattle.shape.specs.Sizes.{heightOk, distanceOk, modelOk}
 use Rattle.steps.specs.Steps.{Table}
+use Rattle.steps.specs.Models.{ofModel}
 use Rattle.shape.specs.declared.Shape.{Shape}
-use Rattle.record.specs.Records.{header, headerAt, result}
-use Rattle.record.specs.Laws.{onDistance, onHeight}
+use Rattle.record.specs.Records.{header, onModel, onDistance, onHeight, headerAt, result}
 use Rattle.window.specs.Window.{isRest}
 use Rattle.window.specs.Fresh.{freshWindow}
 use Rattle.window.specs.Calls.{roundTests, stateTests, roundCall, runCall}
@@ -81,7 +81,10 @@ header-coded : (s : List ℕ) (at : ℕ) → Coded (headerAt s at)
 unfolding headerAt
 header-coded s at =
     coded-then {f = onHeight s} (number-coded s at) (λ h next.
-    coded-test (heightOk h) (coded-then {f = onDistance h} (number-coded s next) (λ d behind. coded-test (distanceOk d) value (number refl))) (number refl))
+    coded-test (heightOk h)
+    (coded-then {f = onDistance s h} (number-coded s next) (λ d last.
+    coded-test (distanceOk d) (coded-then {f = onModel h d} (number-coded s last) (λ m behind. coded-test (modelOk m) value (number refl))) (number refl)))
+    (number refl))
 
 -- ONE RECORD
 
@@ -121,7 +124,7 @@ module _ (T : Table) (s : List ℕ) (size : ℕ) where
       (coded-tests (recordTests T s size w at to) (refl, (refl, (refl, (refl, tt))))
       (coded-test (ltb at (length s)) (coded-tests (lastTest (w .next)) (refl, tt) (turn-coded T s w at)) end))
 
-  -- ROUND AFTER ROUND, and the whole stream
+  -- ROUND AFTER ROUND
 
   abbrev RoundsCoded : Rounds → Type 0
   RoundsCoded r = LineCoded (r .line)
@@ -136,21 +139,24 @@ module _ (T : Table) (s : List ℕ) (size : ℕ) where
       go (wrote bytes v next) h on = on v next (to + length bytes)
       go (stopped l) h on = h
 
-  decoded-coded : LineCoded (decoded T s size .line)
+-- THE WHOLE STREAM, by the model in its header
+
+module _ (s : List ℕ) (size : ℕ) where
+  decoded-coded : LineCoded (decoded s size .line)
   unfolding decoded
   decoded-coded = go (header-coded s 0)
     where
-      go : {a : Answer Shape} → Coded a → LineCoded (onHeader T s size a .line)
+      go : {a : Answer Shape} → Coded a → LineCoded (onHeader s size a .line)
       go end = refl
       go (number h) = h
       go (number-at h) = h
       go (value {v = sh} {next = next}) =
           by-test (λ (d : Decoded). LineCoded (d .line)) (leb (length (header sh)) size) _ (nothingWritten (plain 11))
-          (from-coded (length s + 1) (freshWindow T sh) next (length (header sh))) refl
+          (from-coded (ofModel (sh .model)) s size (length s + 1) (freshWindow (ofModel (sh .model)) sh) next (length (header sh))) refl
 
   -- what a caller sees of it
-  pub status-finished : (place : ℕ) → concluded (decoded T s size .line) place .status ≡ 0 → decoded T s size .line ≡ finished
-  status-finished place e = go (decoded T s size .line) decoded-coded (ap (λ (n : ℕ). eqb n 0) e)
+  pub status-finished : (place : ℕ) → concluded (decoded s size .line) place .status ≡ 0 → decoded s size .line ≡ finished
+  status-finished place e = go (decoded s size .line) decoded-coded (ap (λ (n : ℕ). eqb n 0) e)
     where
       go : (l : Line) → LineCoded l → eqb (concluded l place .status) 0 ≡ true → l ≡ finished
       go finished h e = refl

@@ -10,6 +10,7 @@ use Rattle.refusal.specs.Answer.{Answer, done, valueOr}
 use Rattle.refusal.specs.Bytes.{Bytes}
 use Rattle.list.specs.Sheet.{listed}
 use Rattle.steps.specs.Steps.{Table}
+use Rattle.layers.specs.Layers.{layerEdges}
 use Rattle.shape.specs.declared.Shape.{Shape}
 use Rattle.record.specs.Records.{Result, result}
 use Rattle.trip.specs.Streams.{allBytes}
@@ -20,7 +21,6 @@ use Rattle.window.specs.declared.Ran.{Ran}
 use Rattle.window.specs.declared.Window.{Window}
 use Rattle.law.specs.Law.{Call, round, run, Receipt, Played, receiptOf, returned, receipted, play}
 use Rattle.decoding.specs.Decoding.{Line, finished, budget, Recorded, wrote, stopped, recordAt, Rounds, stop, after, roundsFrom, rounds}
-use Rattle.decoding.specs.Lengths.{LongAs01}
 use Rattle.account.specs.Account.{callsOf, receiptsOf, countOf, countsOf, stepsIn}
 use Rattle.account.specs.ByCalls.{ByCalls, by-calls, resultBy, by-shape, by-rest, by-fits, by-sheet}
 use Rattle.account.specs.Ends.{finished-end}
@@ -51,7 +51,8 @@ pub record Followed (T : Table) (s : List ℕ) (sh : Shape) (w : Window) (at : �
 
 -- ONE TURN of the law's calls
 
-module _ (T : Table) (K : LongAs01 T) (s : List ℕ) (w : Window) (at : ℕ) (bytes : List ℕ) (v : Window) (next : ℕ) (p : ByCalls T s w at bytes v next) (sh : Shape) (same : w .shape ≡ sh) where
+module _ (T : Table) (sh : Shape) (K : layerEdges T (sh .height) (sh .distance) ≡ edgesIn sh) (s : List ℕ) (w : Window) (at : ℕ) (bytes : List ℕ) (v : Window) (next : ℕ)
+    (p : ByCalls T s w at bytes v next) (same : w .shape ≡ sh) where
   abbrev receives : Call
   receives = round (p .sheet) (replicate {A = ℕ} (edgesIn sh) 0) (replicate {A = ℕ} (detectorsIn sh) 0)
 
@@ -63,8 +64,8 @@ module _ (T : Table) (K : LongAs01 T) (s : List ℕ) (w : Window) (at : ℕ) (by
 
   round-done : roundCall T w (p .sheet) (replicate {A = ℕ} (edgesIn sh) 0) (replicate {A = ℕ} (detectorsIn sh) 0) ≡ done (p .round) (p .receives .0)
   round-done =
-      ap (λ (x : Shape). roundCall T w (p .sheet) (replicate {A = ℕ} (edgesIn x) 0) (replicate {A = ℕ} (detectorsIn x) 0)) (sym same)
-      ∙ ap (λ (n : ℕ). roundCall T w (p .sheet) (replicate {A = ℕ} n 0) (replicate {A = ℕ} (detectorsIn (w .shape)) 0)) (sym (K (w .shape .height) (w .shape .distance)))
+      ap (λ (n : ℕ). roundCall T w (p .sheet) (replicate {A = ℕ} n 0) (replicate {A = ℕ} (detectorsIn sh) 0)) (sym K)
+      ∙ ap (λ (x : Shape). roundCall T w (p .sheet) (replicate {A = ℕ} (layerEdges T (x .height) (x .distance)) 0) (replicate {A = ℕ} (detectorsIn x) 0)) (sym same)
       ∙ p .receives .1
 
   window-round : returned T w receives ≡ p .round .window
@@ -97,7 +98,7 @@ module _ (T : Table) (K : LongAs01 T) (s : List ℕ) (w : Window) (at : ℕ) (by
 
 -- ROUND AFTER ROUND
 
-module _ (T : Table) (K : LongAs01 T) (s : List ℕ) (b : Bytes s) (size : ℕ) (sh : Shape) where
+module _ (T : Table) (sh : Shape) (K : layerEdges T (sh .height) (sh .distance) ≡ edgesIn sh) (s : List ℕ) (b : Bytes s) (size : ℕ) where
   followed-stop : (l : Line) (w : Window) (at : ℕ) → w .shape ≡ sh → at ≤ length s → (l ≡ finished → at ≡ length s) → Followed T s sh w at (stop l w at)
   unfolding allBytes callsOf receiptsOf play countsOf
   followed-stop l w at same i e =
@@ -132,10 +133,10 @@ module _ (T : Table) (K : LongAs01 T) (s : List ℕ) (b : Bytes s) (size : ℕ) 
         reads = x .bytes ∙ ap (λ (l : List ℕ). listed (p .sheet) ++ l) (f .reads) ∙ sym (append-assoc (listed (p .sheet)) (allBytes listed (f .rounds)) (drop (r .next) s));
         writes = ap₂ (λ (k l : List ℕ). k ++ l) (p .makes) (f .writes);
         plays = λ before.
-            turn-plays T K s w at bytes v next p sh same before (callsOf sh (f .rounds))
+            turn-plays T sh K s w at bytes v next p same before (callsOf sh (f .rounds))
             ∙ f .plays (before ++ (receiptOf (p .sheet) (p .round) ∷ []))
             ∙ ap (withoutRaw (r .window)) (append-snoc before (receiptOf (p .sheet) (p .round)) (receiptsOf (f .rounds) (f .results)));
-        steps = turn-counts T K s w at bytes v next p sh same (callsOf sh (f .rounds)) ∙ ap (λ (l : List ℕ). p .run .count ∷ l) (f .steps);
+        steps = turn-counts T sh K s w at bytes v next p same (callsOf sh (f .rounds)) ∙ ap (λ (l : List ℕ). p .run .count ∷ l) (f .steps);
         rests = λ h. f .rests (by-rest T s w at bytes v next p sh same);
         shape = f .shape;
         inside = f .inside;

@@ -8,14 +8,14 @@ use Rattle.refusal.specs.Done.{goes-on, went, never}
 use Rattle.refusal.specs.Filling.{drop-part}
 use Rattle.list.specs.Sheet.{listed}
 use Rattle.shape.specs.declared.Shape.{Shape}
-use Rattle.record.specs.Records.{headerAt}
+use Rattle.record.specs.Records.{IsShape, headerAt}
 use Rattle.trip.specs.Streams.{Stream, allBytes, recordsAt, streamOf, roundOf, inputOf}
-use Rattle.trip.specs.Fits.{Each, InRange, RoundFits}
+use Rattle.trip.specs.Fits.{Each, RoundFits}
 use Rattle.trip.specs.Kinds.{round-kind}
 use Rattle.trip.specs.Trip.{onMore, onRecord, onRecords, onHeader}
 use Rattle.account.specs.Account.{firstOf}
 
-module _ (s : List ℕ) (sh : Shape) (range : InRange sh) where
+module _ (s : List ℕ) (sh : Shape) (range : IsShape sh) where
   abbrev of : List (List ℕ) → Stream (List ℕ)
   of rs = record { shape = sh; records = rs }
 

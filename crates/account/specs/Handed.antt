@@ -1,4 +1,4 @@
--- WHAT A CALLER IS LEFT WITH. `decodeLeaves base s old` is the term in the promise of `session::decode`, and `streamDecoded s old place` the one in
+-- WHAT A CALLER IS LEFT WITH. `decodeLeaves s old` is the term in the promise of `session::decode`, and `streamDecoded s old place` the one in
 -- the promise of `baizeridge_decode`, for the bytes s that they are given and the buffer old that they are lent: so many bytes as they count, at
 -- the front of the buffer that they leave, read back as the output that has an account. Assumes nothing.
 use Prim.Native.Nat.{ℕ, _+_, _≤_, _<_}
@@ -9,51 +9,49 @@ use lib.Seq.{take-append-seam, length-take-le}
 use Rattle.refusal.specs.Answer.{done}
 use Rattle.refusal.specs.Bytes.{Bytes}
 use Rattle.refusal.specs.Writing.{laid}
-use Rattle.steps.specs.Steps.{Table, base}
+use Rattle.steps.specs.Steps.{Table}
 use Rattle.trip.specs.Streams.{inputOf, resultsOf, resultBytes}
 use Rattle.window.specs.declared.Window.{Window}
 use Rattle.decoding.specs.Decoding.{rounds, decoded}
 use Rattle.decoding.specs.Answers.{roundsLeave, decodeLeaves}
 use Rattle.exports.specs.Calls.{streamDecoded}
-use Rattle.account.specs.Account.{Account, Accounts}
-use Rattle.account.specs.Theorem.{accounts-base}
+use Rattle.account.specs.Account.{Account}
+use Rattle.account.specs.Theorem.{accounts}
 use Rattle.account.specs.Codes.{status-finished}
 
 -- the bytes that count says, at the buffer's front
-abbrev pub writtenBytes : Table → List ℕ → List ℕ → List ℕ
-writtenBytes T s old = take (decodeLeaves T s old .count) (decodeLeaves T s old .buffer)
+abbrev pub writtenBytes : List ℕ → List ℕ → List ℕ
+writtenBytes s old = take (decodeLeaves s old .count) (decodeLeaves s old .buffer)
 
-pub record Handed (T : Table) (s old : List ℕ) : Type 0 where
-  pub account : Account T s (decoded T s (length old))
-  pub handed : writtenBytes T s old ≡ resultBytes (account .output)
-  pub back : resultsOf (writtenBytes T s old) ≡ done (account .output) (decodeLeaves T s old .count)
+pub record Handed (s old : List ℕ) : Type 0 where
+  pub account : Account s (decoded s (length old))
+  pub handed : writtenBytes s old ≡ resultBytes (account .output)
+  pub back : resultsOf (writtenBytes s old) ≡ done (account .output) (decodeLeaves s old .count)
 
-of : (T : Table) → Accounts T → (s old : List ℕ) → Bytes s → 0 < decodeLeaves T s old .count → Handed T s old
-of T A s old b some =
-    let a = A .account s (length old) b some in
-    let out = decoded T s (length old) .output in
-    let front : writtenBytes T s old ≡ out = take-append-seam out (drop (length out) old) in
+-- of every list of bytes and every buffer, whatever the model in its header, if the count is not 0
+pub handed : (s old : List ℕ) → Bytes s → 0 < decodeLeaves s old .count → Handed s old
+handed s old b some =
+    let a = accounts .account s (length old) b some in
+    let out = decoded s (length old) .output in
+    let front : writtenBytes s old ≡ out = take-append-seam out (drop (length out) old) in
     record { account = a; handed = front ∙ a .writes; back = subst (λ (x : List ℕ). resultsOf x ≡ done (a .output) (length out)) (sym front) (a .back) }
-
--- of every list of bytes and every buffer, if the count is not 0
-pub handed-base : (s old : List ℕ) → Bytes s → 0 < decodeLeaves base s old .count → Handed base s old
-handed-base = of base accounts-base
 
 -- THE EXPORTED CALL: the count and the buffer that `baizeridge_decode` leaves
 pub record Shipped (s old : List ℕ) (place : ℕ) : Type 0 where
-  pub account : Account base s (decoded base s (length old))
+  pub account : Account s (decoded s (length old))
   pub back : resultsOf (take (streamDecoded s old place .count) (streamDecoded s old place .out)) ≡ done (account .output) (streamDecoded s old place .count)
   -- status 0: all of s is an input stream, and it was decoded to its end
   pub whole : streamDecoded s old place .reply .status ≡ 0 → inputOf s ≡ done (account .input) (length s)
 
 pub shipped : (s old : List ℕ) (place : ℕ) → Bytes s → 0 < streamDecoded s old place .count → Shipped s old place
 shipped s old place b some =
-    let h = handed-base s old b some in
-    record { account = h .account; back = h .back; whole = λ e. h .account .whole (status-finished base s (length old) place e) }
+    let h = handed s old b some in
+    record { account = h .account; back = h .back; whole = λ e. h .account .whole (status-finished s (length old) place e) }
 
--- A PIECE: `roundsLeave T s w at old to` is the term in the promise of `session::decode_rounds`. Up to the offset that it answers, the buffer has
--- what stood before the offset that it was given, and then the output of the rounds that it decoded; how it ended, its window and its offset
--- in the input are those of the same rounds. So what the program writes out, piece by piece, is what `pieces` of `Accounts` speaks of.
+-- A PIECE: `roundsLeave T s w at old to`, T by the model of w, is the term in the promise of `session::decode_rounds`. Up to the offset that it
+-- answers, the buffer has what stood before the offset that it was given, and then the output of the rounds that it decoded; how it ended, its
+-- window and its offset in the input are those of the same rounds. So what the program writes out, piece by piece, is what `pieces` of `Accounts`
+-- speaks of.
 pub record Piece (T : Table) (s : List ℕ) (w : Window) (at : ℕ) (old : List ℕ) (to : ℕ) : Type 0 where
   pub bytes : take (roundsLeave T s w at old to .behind) (roundsLeave T s w at old to .buffer) ≡ take to old ++ rounds T s (length old) w at to .output
   pub line : roundsLeave T s w at old to .line ≡ rounds T s (length old) w at to .line

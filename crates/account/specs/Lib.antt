@@ -15,6 +15,6 @@ pub mod Balance
 pub mod Theorem
 -- status 0 of a decoding
 pub mod Codes
--- what a caller is left with, and document 01's first session
+-- what a caller is left with; document 01's first session, and one of model 1
 pub mod Handed
 pub mod Witness

@@ -1,5 +1,6 @@
 -- THE LAW REACHES THE CODE: what a call's promise says is left is what the law's list of calls goes on with. Each hypothesis below is a promise
--- of crates `calls` and `fresh`, word for word, with its left side named; done and refused calls alike. Assumes nothing.
+-- of crates `calls` and `fresh`, word for word, with its left side named; done and refused calls alike. Each call goes by the table of steps of the
+-- model that its window has, the fresh window by that of the model it is created for. Assumes nothing.
 use Prim.Native.Nat.{ℕ}
 use mathlib.Core.Path.{_≡_, refl, sym, _∙_, ap, ap₂, subst}
 use mathlib.Core.Bool.{Bool}
@@ -7,15 +8,18 @@ use mathlib.Core.List.{List, [], _∷_, _++_, append-nil}
 use Rattle.refusal.specs.Answer.{Answer, done, ended, refused, refusedAt, valueOr, itself}
 use Rattle.refusal.specs.Done.{never}
 use Rattle.refusal.specs.Laws.{value-without}
-use Rattle.steps.specs.Steps.{Table, base}
-use Rattle.window.specs.Fresh.{noWindow}
+use Rattle.steps.specs.Steps.{Table}
+use Rattle.steps.specs.Models.{ofModel}
+use Rattle.shape.specs.declared.Shape.{Shape}
+use Rattle.window.specs.Fresh.{freshWindow, noWindow}
 use Rattle.window.specs.Measured.{differences}
 use Rattle.window.specs.Calls.{Answered, Round, leaves, freshCall, roundCall, rawCall, growCall}
 use Rattle.window.specs.declared.Window.{Window}
 use Rattle.calls.specs.Answers.{RoundReturned, roundLeft, roundLeaves, rawLeaves, mergingLeaves, Ended, runLeaves}
-use Rattle.law.specs.Law.{Call, round, raw, grow, merging, run, Receipt, Played, receiptOf, returned, receipted, lastRawAfter, play, start, Law, Demand3}
+use Rattle.closure.specs.Done.{started}
+use Rattle.law.specs.Law.{Call, round, raw, grow, merging, run, Receipt, Played, receiptOf, returned, receipted, lastRawAfter, play, start, Law}
 use Rattle.law_holds.specs.Play.{play-append}
-use Rattle.law_holds.specs.Theorem.{demand3-0}
+use Rattle.law_holds.specs.Theorem.{demand3-model}
 
 -- THE RECEIPT that a round call's promise gives, plain or raw: the defects received, and both buffers as the promise says that they are left;
 -- none where it is refused
@@ -38,36 +42,36 @@ pub record Linked (T : Table) : Type 0 where
   pub mergings : (w : Window) → mergingLeaves T w .window ≡ returned T w merging
   pub runs : (w : Window) (budget : ℕ) → runLeaves T w budget .window ≡ returned T w (run budget)
   -- a fresh window that is done is one that the law starts from
-  pub fresh : (height distance n : ℕ) → leaves (freshCall T height distance) itself noWindow .answer ≡ done tt n
-      → freshCall T height distance ≡ done (leaves (freshCall T height distance) itself noWindow .window) n
+  pub fresh : (height distance model n : ℕ) → leaves (freshCall T height distance model) itself noWindow .answer ≡ done tt n
+      → freshCall T height distance model ≡ done (leaves (freshCall T height distance model) itself noWindow .window) n
 
 -- LISTS OF CALLS, by their promises alone: what is left, the receipts and the last raw bytes, after calls that each get the window as the last one returned it
-pub data Promised (T : Table) (fresh : Window) : Played → Type 0 where
-  at-start : Promised T fresh (start fresh)
-  after-round : (p : Played) → Promised T fresh p → (bytes edges escapes : List ℕ) (x : RoundReturned)
-      → x ≡ roundLeaves T (p .window) bytes edges escapes
-      → Promised T fresh (record { window = x .window; receipts = p .receipts ++ receiptIn bytes x; lastRaw = p .lastRaw })
-  after-raw : (p : Played) → Promised T fresh p → (bytes edges escapes : List ℕ) (x : RoundReturned)
-      → x ≡ rawLeaves T (p .window) bytes edges escapes
-      → Promised T fresh (record {
+pub data Promised (fresh : Window) : Played → Type 0 where
+  at-start : Promised fresh (start fresh)
+  after-round : (p : Played) → Promised fresh p → (bytes edges escapes : List ℕ) (x : RoundReturned)
+      → x ≡ roundLeaves (ofModel (p .window .shape .model)) (p .window) bytes edges escapes
+      → Promised fresh (record { window = x .window; receipts = p .receipts ++ receiptIn bytes x; lastRaw = p .lastRaw })
+  after-raw : (p : Played) → Promised fresh p → (bytes edges escapes : List ℕ) (x : RoundReturned)
+      → x ≡ rawLeaves (ofModel (p .window .shape .model)) (p .window) bytes edges escapes
+      → Promised fresh (record {
         window = x .window;
         receipts = p .receipts ++ receiptIn (differences (p .window .measured) bytes) x;
         lastRaw = lastRawIn bytes (p .lastRaw) x;
       })
-  after-grow : (p : Played) → Promised T fresh p → (x : Answered (Unit {0}))
-      → x ≡ leaves (growCall T (p .window)) itself (p .window)
-      → Promised T fresh (record { window = x .window; receipts = p .receipts; lastRaw = p .lastRaw })
-  after-merging : (p : Played) → Promised T fresh p → (x : Answered Bool)
-      → x ≡ mergingLeaves T (p .window)
-      → Promised T fresh (record { window = x .window; receipts = p .receipts; lastRaw = p .lastRaw })
-  after-run : (p : Played) → Promised T fresh p → (budget : ℕ) (x : Answered Ended)
-      → x ≡ runLeaves T (p .window) budget
-      → Promised T fresh (record { window = x .window; receipts = p .receipts; lastRaw = p .lastRaw })
+  after-grow : (p : Played) → Promised fresh p → (x : Answered (Unit {0}))
+      → x ≡ leaves (growCall (ofModel (p .window .shape .model)) (p .window)) itself (p .window)
+      → Promised fresh (record { window = x .window; receipts = p .receipts; lastRaw = p .lastRaw })
+  after-merging : (p : Played) → Promised fresh p → (x : Answered Bool)
+      → x ≡ mergingLeaves (ofModel (p .window .shape .model)) (p .window)
+      → Promised fresh (record { window = x .window; receipts = p .receipts; lastRaw = p .lastRaw })
+  after-run : (p : Played) → Promised fresh p → (budget : ℕ) (x : Answered Ended)
+      → x ≡ runLeaves (ofModel (p .window .shape .model)) (p .window) budget
+      → Promised fresh (record { window = x .window; receipts = p .receipts; lastRaw = p .lastRaw })
 
--- the law holds after them, if the promise of the fresh window says that it is done
-abbrev pub Reaches : Table → Type 0
-Reaches T = (height distance n : ℕ) (x : Answered (Unit {0})) → x ≡ leaves (freshCall T height distance) itself noWindow → x .answer ≡ done tt n
-    → (p : Played) → Promised T (x .window) p → Law T (x .window) p
+-- the law of a model holds after them, if the promise of the fresh window for it says that it is done
+abbrev pub Reaches : Type 0
+Reaches = (height distance model n : ℕ) (x : Answered (Unit {0})) → x ≡ leaves (freshCall (ofModel model) height distance model) itself noWindow → x .answer ≡ done tt n
+    → (p : Played) → Promised (x .window) p → Law (ofModel model) (x .window) p
 
 -- THE PROOF
 
@@ -95,7 +99,7 @@ linked T =
       grows = λ w. refl;
       mergings = λ w. refl;
       runs = λ w budget. refl;
-      fresh = λ height distance n e. fresh-is (freshCall T height distance) n e;
+      fresh = λ height distance model n e. fresh-is (freshCall T height distance model) n e;
     }
 
 module _ (T : Table) (fresh : Window) where
@@ -119,27 +123,54 @@ module _ (T : Table) (fresh : Window) where
   unreceipted p c w e f g l =
       subst (λ (r : List Receipt). Listed (record { window = w; receipts = r; lastRaw = p .lastRaw })) (append-nil (p .receipts)) (one-more p c w [] (p .lastRaw) e f g l)
 
-  listed : (p : Played) → Promised T fresh p → Listed p
+-- A FRESH WINDOW that has a model, and of which the model's law holds: no call changes the shape, so each call's table is the model's
+module _ (model : ℕ) (fresh : Window) (has : fresh .shape .model ≡ model)
+    (law : (calls : List Call) → Law (ofModel model) fresh (play (ofModel model) (start fresh) calls)) where
+  abbrev T : Table
+  T = ofModel model
+
+  -- the model of the window after a list of calls
+  model-is : (p : Played) → Listed T fresh p → p .window .shape .model ≡ model
+  model-is p l = ap (λ (q : Played). q .window .shape .model) (sym (l .1)) ∙ ap (λ (sh : Shape). sh .model) (law (l .0) .shape) ∙ has
+
+  listed : (p : Played) → Promised fresh p → Listed T fresh p
   unfolding play
   listed _ at-start = ([], refl)
   listed _ (after-round p k bytes edges escapes x e) =
-      one-more p (round bytes edges escapes) (x .window) (receiptIn bytes x) (p .lastRaw) (ap (λ (y : RoundReturned). y .window) e)
-      (ap (receiptIn bytes) e ∙ linked T .receipts (p .window) bytes edges escapes) refl (listed p k)
+      let l = listed p k in
+      let f : x ≡ roundLeaves T (p .window) bytes edges escapes = e ∙ ap (λ (m : ℕ). roundLeaves (ofModel m) (p .window) bytes edges escapes) (model-is p l) in
+      one-more T fresh p (round bytes edges escapes) (x .window) (receiptIn bytes x) (p .lastRaw) (ap (λ (y : RoundReturned). y .window) f)
+      (ap (receiptIn bytes) f ∙ linked T .receipts (p .window) bytes edges escapes) refl l
   listed _ (after-raw p k bytes edges escapes x e) =
+      let l = listed p k in
       let d = differences (p .window .measured) bytes in
-      one-more p (raw bytes edges escapes) (x .window) (receiptIn d x) (lastRawIn bytes (p .lastRaw) x) (ap (λ (y : RoundReturned). y .window) e)
-      (ap (receiptIn d) e ∙ linked T .raw-receipts (p .window) bytes edges escapes)
-      (ap (lastRawIn bytes (p .lastRaw)) e ∙ linked T .last-raws (p .window) (p .lastRaw) bytes edges escapes) (listed p k)
-  listed _ (after-grow p k x e) = unreceipted p grow (x .window) (ap (λ (y : Answered (Unit {0})). y .window) e) refl refl (listed p k)
-  listed _ (after-merging p k x e) = unreceipted p merging (x .window) (ap (λ (y : Answered Bool). y .window) e) refl refl (listed p k)
-  listed _ (after-run p k budget x e) = unreceipted p (run budget) (x .window) (ap (λ (y : Answered Ended). y .window) e) refl refl (listed p k)
+      let f : x ≡ rawLeaves T (p .window) bytes edges escapes = e ∙ ap (λ (m : ℕ). rawLeaves (ofModel m) (p .window) bytes edges escapes) (model-is p l) in
+      one-more T fresh p (raw bytes edges escapes) (x .window) (receiptIn d x) (lastRawIn bytes (p .lastRaw) x) (ap (λ (y : RoundReturned). y .window) f)
+      (ap (receiptIn d) f ∙ linked T .raw-receipts (p .window) bytes edges escapes)
+      (ap (lastRawIn bytes (p .lastRaw)) f ∙ linked T .last-raws (p .window) (p .lastRaw) bytes edges escapes) l
+  listed _ (after-grow p k x e) =
+      let l = listed p k in
+      let f : x ≡ leaves (growCall T (p .window)) itself (p .window) = e ∙ ap (λ (m : ℕ). leaves (growCall (ofModel m) (p .window)) itself (p .window)) (model-is p l) in
+      unreceipted T fresh p grow (x .window) (ap (λ (y : Answered (Unit {0})). y .window) f) refl refl l
+  listed _ (after-merging p k x e) =
+      let l = listed p k in
+      let f : x ≡ mergingLeaves T (p .window) = e ∙ ap (λ (m : ℕ). mergingLeaves (ofModel m) (p .window)) (model-is p l) in
+      unreceipted T fresh p merging (x .window) (ap (λ (y : Answered Bool). y .window) f) refl refl l
+  listed _ (after-run p k budget x e) =
+      let l = listed p k in
+      let f : x ≡ runLeaves T (p .window) budget = e ∙ ap (λ (m : ℕ). runLeaves (ofModel m) (p .window) budget) (model-is p l) in
+      unreceipted T fresh p (run budget) (x .window) (ap (λ (y : Answered Ended). y .window) f) refl refl l
 
-reaches : (T : Table) → Demand3 T → Reaches T
-reaches T law height distance n x e d p k =
-    let f : freshCall T height distance ≡ done (x .window) n =
-    linked T .fresh height distance n (ap (λ (y : Answered (Unit {0})). y .answer) (sym e) ∙ d) ∙ ap (λ (y : Answered (Unit {0})). done (y .window) n) (sym e) in
-    let l = listed T (x .window) p k in
-    subst (Law T (x .window)) (l .1) (law height distance (x .window) n f (l .0))
+-- a fresh window has the model that it was created for
+fresh-model : (T : Table) (height distance model : ℕ) (w : Window) (n : ℕ) → freshCall T height distance model ≡ done w n → w .shape .model ≡ model
+unfolding freshWindow
+fresh-model T height distance model w n e = ap (λ (u : Window). u .shape .model) (sym (started T height distance model w n e .value))
 
-pub reached : Reaches base
-reached = reaches base demand3-0
+pub reached : Reaches
+reached height distance model n x e d p k =
+    let T = ofModel model in
+    let f : freshCall T height distance model ≡ done (x .window) n =
+    linked T .fresh height distance model n (ap (λ (y : Answered (Unit {0})). y .answer) (sym e) ∙ d) ∙ ap (λ (y : Answered (Unit {0})). done (y .window) n) (sym e) in
+    let law = demand3-model model height distance model (x .window) n f in
+    let l = listed model (x .window) (fresh-model T height distance model (x .window) n f) law p k in
+    subst (Law T (x .window)) (l .1) (law (l .0))

@@ -7,15 +7,15 @@ use lib.ListN.{length, drop, length-append}
 use Rattle.refusal.specs.Bytes.{Bytes}
 use Rattle.list.specs.Sheet.{listed}
 use Rattle.steps.specs.Steps.{Table}
+use Rattle.layers.specs.Layers.{layerEdges}
 use Rattle.shape.specs.declared.Shape.{Shape}
 use Rattle.record.specs.Records.{Result, result}
 use Rattle.trip.specs.Streams.{allBytes}
-use Rattle.trip.specs.Fits.{Each, RoundFits, RecordFits}
+use Rattle.trip.specs.Fits.{Each, RoundFits, RecordFits, edgesIn}
 use Rattle.window.specs.declared.Window.{Window}
 use Rattle.law.specs.Law.{Call, Receipt, Played, called, play}
 use Rattle.law_holds.specs.Play.{play-append}
 use Rattle.decoding.specs.Decoding.{Rounds, after, rounds}
-use Rattle.decoding.specs.Lengths.{LongAs01}
 use Rattle.account.specs.Account.{callsOf, receiptsOf, countOf, countsOf, stepsIn, resumedFrom}
 use Rattle.account.specs.Follow.{Followed, followed, withoutRaw}
 
@@ -95,10 +95,10 @@ module _ (T : Table) (s : List ℕ) (sh : Shape) (w : Window) (at : ℕ) (r q : 
         whole = g .whole;
       }
 
-module _ (T : Table) (K : LongAs01 T) (s : List ℕ) (b : Bytes s) (size : ℕ) (sh : Shape) where
+module _ (T : Table) (sh : Shape) (K : layerEdges T (sh .height) (sh .distance) ≡ edgesIn sh) (s : List ℕ) (b : Bytes s) (size : ℕ) where
   pub followed-resumed : (n : ℕ) (w : Window) (at to : ℕ) → w .shape ≡ sh → at ≤ length s → Followed T s sh w at (resumedFrom T s size n w at to)
   unfolding resumedFrom
-  followed-resumed zero w at to same i = followed T K s b size sh w at to same i
+  followed-resumed zero w at to same i = followed T sh K s b size w at to same i
   followed-resumed (suc n) w at to same i =
-      let f = followed T K s b size sh w at to same i in
+      let f = followed T sh K s b size w at to same i in
       followed-both T s sh w at (rounds T s size w at to) _ f (followed-resumed n _ _ 0 (f .shape) (f .inside))

@@ -8,7 +8,7 @@ use Rattle.refusal.specs.Laws.{undone, turned-not, turned-passed, value-not, tu
 use Rattle.refusal.specs.Tests.{Passes, Turned}
 use Rattle.refusal.specs.declared.Refusal.{Refusal}
 use Rattle.shape.specs.Choice.{whether}
-use Rattle.steps.specs.Steps.{base}
+use Rattle.steps.specs.Models.{ofModel}
 use Rattle.window.specs.Window.{isRest, isMerging, isToGrow}
 use Rattle.window.specs.Merging.{merged}
 use Rattle.window.specs.Calls.{callAnswer, Answered, given, leaves, stateTests, mergingCall, growCall, runCall}
@@ -37,17 +37,17 @@ module _ {A : Type 0} (tests : List (Bool × ℕ)) (v : A) (of : A → Window) (
 
 -- GROWING
 
-module _ (w : Window) (b : Bool) (same : b ≡ isToGrow (w .stage)) (r : Called) (as-told : callAnswer r ≡ unless (stateTests base w b) fine) where
-  pub grow-refused : (f : Refusal) → r ≡ called.Refused f → given (turned f) w ≡ leaves (growCall base w) itself w
+module _ (w : Window) (b : Bool) (same : b ≡ isToGrow (w .stage)) (r : Called) (as-told : callAnswer r ≡ unless (stateTests (ofModel (w .shape .model)) w b) fine) where
+  pub grow-refused : (f : Refusal) → r ≡ called.Refused f → given (turned f) w ≡ leaves (growCall (ofModel (w .shape .model)) w) itself w
   unfolding growCall
   grow-refused f z =
-      leaves-turned (stateTests base w (isToGrow (w .stage))) (grown base w) itself w f (state-turned w b (isToGrow (w .stage)) same r as-told f z)
+      leaves-turned (stateTests (ofModel (w .shape .model)) w (isToGrow (w .stage))) (grown (ofModel (w .shape .model)) w) itself w f (state-turned w b (isToGrow (w .stage)) same r as-told f z)
 
-  pub grow-done : (v : Window) → r ≡ called.Done → v ≡ grown base w → given fine v ≡ leaves (growCall base w) itself w
+  pub grow-done : (v : Window) → r ≡ called.Done → v ≡ grown (ofModel (w .shape .model)) w → given fine v ≡ leaves (growCall (ofModel (w .shape .model)) w) itself w
   unfolding growCall
   grow-done v z e =
       ap (λ (x : Window). given fine x) e
-      ∙ leaves-done (stateTests base w (isToGrow (w .stage))) (grown base w) itself w (state-passes w b (isToGrow (w .stage)) same r as-told z)
+      ∙ leaves-done (stateTests (ofModel (w .shape .model)) w (isToGrow (w .stage))) (grown (ofModel (w .shape .model)) w) itself w (state-passes w b (isToGrow (w .stage)) same r as-told z)
 
 -- MERGING
 
@@ -58,44 +58,44 @@ merging-on ToGrow e = absurd (undone (sym e))
 merging-on Merging e = (refl, refl)
 
 -- a step is a run of one
-one-step : (w : Window) → isToGrow (w .stage) ≡ false → ran base 1 w ≡ record { window = merged base w; rest = isRest (merged base w .stage); count = 1 }
+one-step : (w : Window) → isToGrow (w .stage) ≡ false → ran (ofModel (w .shape .model)) 1 w ≡ record { window = merged (ofModel (w .shape .model)) w; rest = isRest (merged (ofModel (w .shape .model)) w .stage); count = 1 }
 one-step w t =
-    ran-merging base 1 w t
-    ∙ whether (isRest (merged base w .stage)) (λ e. rw (steps-rest base 0 w 0 e, e)) (λ e. rw (steps-on base 0 w 0 e, none-left base 1 (merged base w), e))
+    ran-merging (ofModel (w .shape .model)) 1 w t
+    ∙ whether (isRest (merged (ofModel (w .shape .model)) w .stage)) (λ e. rw (steps-rest (ofModel (w .shape .model)) 0 w 0 e, e)) (λ e. rw (steps-on (ofModel (w .shape .model)) 0 w 0 e, none-left (ofModel (w .shape .model)) 1 (merged (ofModel (w .shape .model)) w), e))
 
 abbrev merges : Window → Answer Window → Answered Bool
 merges w a = given (andThen a (λ v n. done (isRest (v .stage)) n)) (valueOr a itself w)
 
-module _ (w : Window) (b : Bool) (same : b ≡ isMerging (w .stage)) (r : Called) (as-told : callAnswer r ≡ unless (stateTests base w b) fine) where
-  pub merging-refused : (f : Refusal) → r ≡ called.Refused f → given (turned f) w ≡ mergingLeaves base w
+module _ (w : Window) (b : Bool) (same : b ≡ isMerging (w .stage)) (r : Called) (as-told : callAnswer r ≡ unless (stateTests (ofModel (w .shape .model)) w b) fine) where
+  pub merging-refused : (f : Refusal) → r ≡ called.Refused f → given (turned f) w ≡ mergingLeaves (ofModel (w .shape .model)) w
   unfolding mergingCall
   merging-refused f z =
-      sym (ap (λ (a : Answer Window). merges w a) (state-turned w b (isMerging (w .stage)) same r as-told f z Window (done (merged base w) 0)) ∙ rw (
+      sym (ap (λ (a : Answer Window). merges w a) (state-turned w b (isMerging (w .stage)) same r as-told f z Window (done (merged (ofModel (w .shape .model)) w) 0)) ∙ rw (
         turned-as {B = Bool} f (λ (v : Window) n. done (isRest (v .stage)) n),
         value-not (turned {A = Window} f) itself w (turned-not Window f),
       ))
 
-  pub merging-done : (v : Ran) (rest : Bool) → r ≡ called.Done → v ≡ ran base 1 w → rest ≡ v .rest → given (done rest 0) (v .window) ≡ mergingLeaves base w
+  pub merging-done : (v : Ran) (rest : Bool) → r ≡ called.Done → v ≡ ran (ofModel (w .shape .model)) 1 w → rest ≡ v .rest → given (done rest 0) (v .window) ≡ mergingLeaves (ofModel (w .shape .model)) w
   unfolding mergingCall
   merging-done v rest z e f =
       let t = state-fine w b (isMerging (w .stage)) same r as-told z .1 in
-      rw (f, e, one-step w (merging-on (w .stage) t .1)) (sym (ap (λ (a : Answer Window). merges w a) (state-passes w b (isMerging (w .stage)) same r as-told z Window (done (merged base w) 0))))
+      rw (f, e, one-step w (merging-on (w .stage) t .1)) (sym (ap (λ (a : Answer Window). merges w a) (state-passes w b (isMerging (w .stage)) same r as-told z Window (done (merged (ofModel (w .shape .model)) w) 0))))
 
 -- RUNNING
 
 abbrev runs : Window → Answer Ran → Answered Ended
 runs w a = given (andThen a (λ r n. done (endedBy (r .rest) (r .count)) n)) (valueOr a (λ r. r .window) w)
 
-module _ (w : Window) (budget : ℕ) (b : Bool) (same : b ≡ not (isRest (w .stage))) (r : Called) (as-told : callAnswer r ≡ unless (stateTests base w b) fine) where
-  pub run-refused : (f : Refusal) → r ≡ called.Refused f → given (turned f) w ≡ runLeaves base w budget
+module _ (w : Window) (budget : ℕ) (b : Bool) (same : b ≡ not (isRest (w .stage))) (r : Called) (as-told : callAnswer r ≡ unless (stateTests (ofModel (w .shape .model)) w b) fine) where
+  pub run-refused : (f : Refusal) → r ≡ called.Refused f → given (turned f) w ≡ runLeaves (ofModel (w .shape .model)) w budget
   unfolding runCall
   run-refused f z =
-      sym (ap (λ (a : Answer Ran). runs w a) (state-turned w b (not (isRest (w .stage))) same r as-told f z Ran (done (ran base budget w) 0)) ∙ rw (
+      sym (ap (λ (a : Answer Ran). runs w a) (state-turned w b (not (isRest (w .stage))) same r as-told f z Ran (done (ran (ofModel (w .shape .model)) budget w) 0)) ∙ rw (
         turned-as {B = Ended} f (λ (v : Ran) n. done (endedBy (v .rest) (v .count)) n),
         value-not (turned {A = Ran} f) (λ (v : Ran). v .window) w (turned-not Ran f),
       ))
 
-  pub run-done : (v : Ran) (e : Ended) → r ≡ called.Done → v ≡ ran base budget w → e ≡ endedBy (v .rest) (v .count) → given (done e 0) (v .window) ≡ runLeaves base w budget
+  pub run-done : (v : Ran) (e : Ended) → r ≡ called.Done → v ≡ ran (ofModel (w .shape .model)) budget w → e ≡ endedBy (v .rest) (v .count) → given (done e 0) (v .window) ≡ runLeaves (ofModel (w .shape .model)) w budget
   unfolding runCall
   run-done v e z f g =
-      rw (g, f) (sym (ap (λ (a : Answer Ran). runs w a) (state-passes w b (not (isRest (w .stage))) same r as-told z Ran (done (ran base budget w) 0))))
+      rw (g, f) (sym (ap (λ (a : Answer Ran). runs w a) (state-passes w b (not (isRest (w .stage))) same r as-told z Ran (done (ran (ofModel (w .shape .model)) budget w) 0))))

@@ -5,7 +5,7 @@ use window::Given;
 use window::Window;
 ghost use mathlib.Core.Path.{_≡_};
 ghost use Rattle.refusal.specs.Answer.{itself};
-ghost use Rattle.steps.specs.Steps.{base};
+ghost use Rattle.steps.specs.Models.{ofModel};
 ghost use Rattle.window.specs.Calls.{callAnswer, given, leaves, growCall};
 ghost use Rattle.calls.specs.Answers.{roundReturned, roundLeaves, rawLeaves, mergingAnswer, mergingLeaves, runAnswer, runLeaves};
 
@@ -35,7 +35,7 @@ pub struct Concluded {
 
 // Receives a round of defects: the bottom layer's edges and defects go to the buffers, and all else moves down one sheet.
 pub fn round(w: Window, bytes: &[u8], edges: &mut [u8], escapes: &mut [u8]) -> Given
-    ensures { λ r. ⌜ roundReturned (callAnswer (r .answer)) (r .window) (now (edges .exit)) (now (escapes .exit)) ≡ roundLeaves base w (now (bytes .entry)) (now (edges .entry)) (now (escapes .entry)) ⌝ }
+    ensures { λ r. ⌜ roundReturned (callAnswer (r .answer)) (r .window) (now (edges .exit)) (now (escapes .exit)) ≡ roundLeaves (ofModel (w .shape .model)) w (now (bytes .entry)) (now (edges .entry)) (now (escapes .entry)) ⌝ }
 {
     let tested = tested::test_round(w, bytes, edges.len(), escapes.len());
     if let Called::Refused(f) = tested {
@@ -52,7 +52,7 @@ pub fn round(w: Window, bytes: &[u8], edges: &mut [u8], escapes: &mut [u8]) -> G
 
 // Receives a round of raw measurements: its defects are the places that differ from the last measured sheet, which the bytes then replace.
 pub fn raw_round(w: Window, bytes: &[u8], edges: &mut [u8], escapes: &mut [u8]) -> Given
-    ensures { λ r. ⌜ roundReturned (callAnswer (r .answer)) (r .window) (now (edges .exit)) (now (escapes .exit)) ≡ rawLeaves base w (now (bytes .entry)) (now (edges .entry)) (now (escapes .entry)) ⌝ }
+    ensures { λ r. ⌜ roundReturned (callAnswer (r .answer)) (r .window) (now (edges .exit)) (now (escapes .exit)) ≡ rawLeaves (ofModel (w .shape .model)) w (now (bytes .entry)) (now (edges .entry)) (now (escapes .entry)) ⌝ }
 {
     let tested = tested::test_round(w, bytes, edges.len(), escapes.len());
     if let Called::Refused(f) = tested {
@@ -69,7 +69,7 @@ pub fn raw_round(w: Window, bytes: &[u8], edges: &mut [u8], escapes: &mut [u8]) 
 
 // Grows every edge by its active ends.
 pub fn grow(w: Window) -> Given
-    ensures { λ r. ⌜ given (callAnswer (r .answer)) (r .window) ≡ leaves (growCall base w) itself w ⌝ }
+    ensures { λ r. ⌜ given (callAnswer (r .answer)) (r .window) ≡ leaves (growCall (ofModel (w .shape .model)) w) itself w ⌝ }
 {
     let stage = w.stage;
     let tested = tested::test_state(w, window::is_to_grow(stage));
@@ -87,7 +87,7 @@ pub fn grow(w: Window) -> Given
 
 // Makes one merging step: a run of one.
 pub fn merging(w: Window) -> MergingGiven
-    ensures { λ r. ⌜ given (mergingAnswer (r .answer)) (r .window) ≡ mergingLeaves base w ⌝ }
+    ensures { λ r. ⌜ given (mergingAnswer (r .answer)) (r .window) ≡ mergingLeaves (ofModel (w .shape .model)) w ⌝ }
 {
     let stage = w.stage;
     let tested = tested::test_state(w, window::is_merging(stage));
@@ -113,7 +113,7 @@ pub fn merging(w: Window) -> MergingGiven
 
 // Runs a window to rest, or through its budget of merging steps: it grows if that is due.
 pub fn run(w: Window, budget: u32) -> Concluded
-    ensures { λ r. ⌜ given (runAnswer (r .answer)) (r .window) ≡ runLeaves base w budget ⌝ }
+    ensures { λ r. ⌜ given (runAnswer (r .answer)) (r .window) ≡ runLeaves (ofModel (w .shape .model)) w budget ⌝ }
 {
     let stage = w.stage;
     let tested = tested::test_state(w, !window::is_rest(stage));

@@ -6,7 +6,7 @@ use mathlib.Core.List.{List}
 use borrow.Author.Tests.{not-true}
 use lib.ListN.{length}
 use Rattle.refusal.specs.Answer.{done}
-use Rattle.shape.specs.Sizes.{inRange, detectorsOf}
+use Rattle.shape.specs.Sizes.{inRange, modelOk, detectorsOf}
 use Rattle.steps.specs.Steps.{Table}
 use Rattle.shape.specs.declared.Shape.{Shape}
 use Rattle.window.specs.Window.{isRest, isToGrow, isMerging}
@@ -39,7 +39,7 @@ pub record Kept (T : Table) (w : Window) : Type 0 where
 
 -- THE STATEMENT, for each call on any window whose arrays have their lengths, whatever else it is given
 pub record Closed (T : Table) : Type 0 where
-  pub freshCalls : (height distance : ℕ) (v : Window) (n : ℕ) → freshCall T height distance ≡ done v n → Kept T v
+  pub freshCalls : (height distance model : ℕ) (v : Window) (n : ℕ) → freshCall T height distance model ≡ done v n → Kept T v
   pub roundCalls : (w : Window) (bytes edges escapes : List ℕ) (v : Round) (n : ℕ) → Sized T w → roundCall T w bytes edges escapes ≡ done v n → Kept T (v .window)
   pub rawCalls : (w : Window) (bytes edges escapes : List ℕ) (v : Round) (n : ℕ) → Sized T w → rawCall T w bytes edges escapes ≡ done v n → Kept T (v .window)
   pub growCalls : (w v : Window) (n : ℕ) → Sized T w → growCall T w ≡ done v n → Kept T v
@@ -48,8 +48,8 @@ pub record Closed (T : Table) : Type 0 where
 
 -- THE RULES
 
-pub kept-fresh : (T : Table) (sh : Shape) → inRange (sh .height) (sh .distance) ≡ true → Kept T (freshWindow T sh)
-kept-fresh T sh e = record { formed = fresh T sh e; sized = fresh-sized T sh }
+pub kept-fresh : (T : Table) (sh : Shape) → inRange (sh .height) (sh .distance) ≡ true → modelOk (sh .model) ≡ true → Kept T (freshWindow T sh)
+kept-fresh T sh e m = record { formed = fresh T sh e m; sized = fresh-sized T sh }
 
 module _ (T : Table) (S : Suited T) where
   module _ (w : Window) (k : Kept T w) where
@@ -79,8 +79,10 @@ module _ (T : Table) (S : Suited T) where
 -- THE CALLS
 
 module _ (T : Table) (S : Suited T) where
-  fresh-done : (h d : ℕ) (v : Window) (n : ℕ) → freshCall T h d ≡ done v n → Kept T v
-  fresh-done h d v n e = let x = started T h d v n e in subst (λ (u : Window). Kept T u) (x .value) (kept-fresh T (record { height = h; distance = d }) (x .ranged))
+  fresh-done : (h d m : ℕ) (v : Window) (n : ℕ) → freshCall T h d m ≡ done v n → Kept T v
+  fresh-done h d m v n e =
+      let x = started T h d m v n e in
+      subst (λ (u : Window). Kept T u) (x .value) (kept-fresh T (record { height = h; distance = d; model = m }) (x .ranged) (x .modelled))
 
   module _ (w : Window) (s : Sized T w) where
     round-done : (bytes edges escapes : List ℕ) (v : Round) (n : ℕ) → roundCall T w bytes edges escapes ≡ done v n → Kept T (v .window)

@@ -10,7 +10,7 @@ use lib.ListN.{getD, drop}
 use Rattle.refusal.specs.Laws.{undone}
 use Rattle.shape.specs.Choice.{if-true, if-false, whether}
 use Rattle.shape.specs.Ranges.{Ranged, ranged, in-range, nodes-of, halves, both}
-use Rattle.shape.specs.Sizes.{sheetsOf, boundary, nodesIn, nodesOf, detectorsOf}
+use Rattle.shape.specs.Sizes.{modelOk, sheetsOf, boundary, nodesIn, nodesOf, detectorsOf}
 use Rattle.shape.specs.Nodes.{indexOf, numberOf, placeAt}
 use Rattle.shape.specs.LawsIndex.{index-lt, index-inside}
 use Rattle.shape.specs.LawsNumber.{numbered, number-lt}
@@ -151,6 +151,7 @@ SlotOf T w g kind growth correction = Slot (to w T (namer T kind) g .there) (get
 
 pub record Facts (T : Table) (w : Window) : Type 0 where
   pub ranged : Ranged (w .shape .height) (w .shape .distance)
+  pub model : modelOk (w .shape .model) ≡ true
   pub next : sheetsOf (w .shape .distance) ≤ w .next
   pub nodes : (g : ℕ) → g < size w → Fits T (w .stage) (w .shape .height) (w .shape .distance) (present w) (pointed w) (place w g) (at w g)
   pub slots : (g kind : ℕ) → g < size w → kind < T .kinds
@@ -181,10 +182,12 @@ module _ (T : Table) (w : Window) where
       let f = halves _ _ (c .0) in
       let n = halves _ _ (f .0) in
       let r = halves _ _ (n .0) in
+      let m = halves _ _ (r .0) in
       record {
-        ranged = ranged _ _ (r .0);
+        ranged = ranged _ _ (m .0);
+        model = m .1;
         next = leb-true _ _ (r .1);
-        nodes = λ g l. fits T (w .stage) _ _ _ _ (place w g) (at w g) (own-lt _ _ (ranged _ _ (r .0)) g l) (every-at (nodeFitsAt T w) (size w) (n .1) g l);
+        nodes = λ g l. fits T (w .stage) _ _ _ _ (place w g) (at w g) (own-lt _ _ (ranged _ _ (m .0)) g l) (every-at (nodeFitsAt T w) (size w) (n .1) g l);
         slots = λ g kind l m. slot-at g kind (every-at (slotFitsAt T w g) (T .kinds) (every-at (λ i. every (T .kinds) (slotFitsAt T w i)) (size w) (f .1) g l) kind m);
         unusedNodes = c .1;
         unusedGrowth = b .1;
@@ -200,7 +203,7 @@ module _ (T : Table) (w : Window) where
       (both _ _
       (both _ _
       (both _ _
-      (both _ _ (both _ _ (in-range _ _ (f .ranged)) (le-leb _ _ (f .next)))
+      (both _ _ (both _ _ (both _ _ (in-range _ _ (f .ranged)) (f .model)) (le-leb _ _ (f .next)))
       (every-by (nodeFitsAt T w) (size w) (λ g l. fits-by T (w .stage) _ _ _ _ (place w g) (at w g) (f .nodes g l))))
       (every-by (λ i. every (T .kinds) (slotFitsAt T w i)) (size w) (λ g l. every-by (slotFitsAt T w g) (T .kinds) (λ kind m. slot-by g kind (f .slots g kind l m)))))
       (f .unusedNodes))

@@ -87,6 +87,7 @@ module _ (T : Table) (P : Proper T) (w : Window) where
     grown-facts =
         record {
           ranged = f .ranged;
+          model = f .model;
           next = f .next;
           nodes = node-fits;
           slots = slot-fits;

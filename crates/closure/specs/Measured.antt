@@ -28,6 +28,7 @@ module _ (T : Table) (w : Window) (bytes : List ℕ) (long : length bytes ≡ de
   measured-facts f =
       record {
         ranged = f .ranged;
+        model = f .model;
         next = f .next;
         nodes = f .nodes;
         slots = f .slots;

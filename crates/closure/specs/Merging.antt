@@ -163,6 +163,7 @@ module _ (T : Table) (w : Window) where
     merged-facts S =
         record {
           ranged = f .ranged;
+          model = f .model;
           next = f .next;
           nodes = node-fits;
           slots = slot-fits S;

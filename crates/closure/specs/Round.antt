@@ -155,6 +155,7 @@ module _ (T : Table) (S : Suited T) (w : Window) (defects : List ℕ) (f : Facts
   rounded-facts =
       record {
         ranged = f .ranged;
+        model = f .model;
         next = omega (arith, f .next);
         nodes = node-fits;
         slots = slot-fits;

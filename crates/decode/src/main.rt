@@ -1,7 +1,7 @@
 // Decodes one input stream of at most 65,536 bytes from standard input, and writes the result stream to standard output. The result is
 // whole if the program ends with status 0 and says nothing on standard error. What stopped it is said there by one line, behind all that
 // is written of the result:
-//   refused N  by document 01's number; the header, if it was read, and the finished rounds are written
+//   refused N  by the documents' number; the header, if it was read, and the finished rounds are written
 //   spent      in the next round; the header and the finished rounds are written
 //   long       more than 65,536 bytes can be read; nothing is written
 //   unread     a read failed; nothing is written
@@ -118,7 +118,11 @@ fn decode(src: &[u8], out: &mut [u8]) {
         HeaderRead::Shape(shape, next) => match record::write_header(shape, out, 0) {
             Wrote::Not(f) => say_refused(f),
             Wrote::To(to) => {
-                let fresh = fresh::fresh(shape.height as u32, shape.distance as u32);
+                let fresh = fresh::fresh(
+                    shape.height as u32,
+                    shape.distance as u32,
+                    shape.model as u32,
+                );
                 let window = fresh.window;
                 decode_rounds(window, src, next, out, to);
             }

@@ -80,5 +80,5 @@ decodeReturned l n buffer = record { line = l; count = n; buffer = buffer }
 abbrev pub outputLeaves : Decoded → List ℕ → DecodeReturned
 outputLeaves r old = decodeReturned (r .line) (length (r .output)) (r .output ++ drop (length (r .output)) old)
 
-abbrev pub decodeLeaves : Table → List ℕ → List ℕ → DecodeReturned
-decodeLeaves T s old = outputLeaves (decoded T s (length old)) old
+abbrev pub decodeLeaves : List ℕ → List ℕ → DecodeReturned
+decodeLeaves s old = outputLeaves (decoded s (length old)) old

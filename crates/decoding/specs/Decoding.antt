@@ -8,6 +8,7 @@ use Rattle.refusal.specs.Answer.{Answer, done, ended, refused, refusedAt, unles
 use Rattle.shape.specs.Choice.{if}
 use Rattle.shape.specs.Sizes.{detectorsOf}
 use Rattle.steps.specs.Steps.{Table}
+use Rattle.steps.specs.Models.{ofModel}
 use Rattle.layers.specs.Layers.{layerEdges}
 use Rattle.record.specs.Records.{header, headerAt, unlessEnded, roundAt, Result, result}
 use Rattle.window.specs.Window.{isRest, maxNext}
@@ -139,12 +140,12 @@ nothingWritten c = record { output = []; line = turnedBack c }
 abbrev pub behind : List ℕ → Rounds → Decoded
 behind bytes r = record { output = bytes ++ r .output; line = r .line }
 
--- the header, then the rounds
-unfoldable pub decoded : Table → List ℕ → ℕ → Decoded
-decoded T s size =
+-- the header, then the rounds, by the table of its model
+unfoldable pub decoded : List ℕ → ℕ → Decoded
+decoded s size =
     elim (headerAt s 0) [
       | ended ↦ nothingWritten (placed 7 0)
       | refused e ↦ nothingWritten (plain e)
       | refusedAt e o ↦ nothingWritten (placed e o)
-      | done sh next ↦ if (leb (length (header sh)) size) (behind (header sh) (rounds T s size (freshWindow T sh) next (length (header sh)))) (nothingWritten (plain 11))
+      | done sh next ↦ if (leb (length (header sh)) size) (behind (header sh) (rounds (ofModel (sh .model)) s size (freshWindow (ofModel (sh .model)) sh) next (length (header sh)))) (nothingWritten (plain 11))
     ]

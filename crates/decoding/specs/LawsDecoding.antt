@@ -18,6 +18,7 @@ use Rattle.list.specs.Sheet.{listAt}
 use Rattle.list.specs.Trip.{ListWrites, list-writes}
 use Rattle.shape.specs.Choice.{if, if-true, if-false}
 use Rattle.steps.specs.Steps.{Table}
+use Rattle.steps.specs.Models.{ofModel}
 use Rattle.shape.specs.declared.Shape.{Shape}
 use Rattle.record.specs.Laws.{before-end}
 use Rattle.record.specs.Records.{header, headerAt, unlessEnded, roundAt, result}
@@ -216,26 +217,26 @@ module _ (T : Table) (s : List ℕ) (size : ℕ) where
 
 -- THE WHOLE STREAM
 
-abbrev pub onHeader : Table → List ℕ → ℕ → Answer Shape → Decoded
-onHeader T s size a =
+abbrev pub onHeader : List ℕ → ℕ → Answer Shape → Decoded
+onHeader s size a =
     elim a [
       | ended ↦ nothingWritten (placed 7 0)
       | refused e ↦ nothingWritten (plain e)
       | refusedAt e o ↦ nothingWritten (placed e o)
-      | done sh next ↦ if (leb (length (header sh)) size) (behind (header sh) (rounds T s size (freshWindow T sh) next (length (header sh)))) (nothingWritten (plain 11))
+      | done sh next ↦ if (leb (length (header sh)) size) (behind (header sh) (rounds (ofModel (sh .model)) s size (freshWindow (ofModel (sh .model)) sh) next (length (header sh)))) (nothingWritten (plain 11))
     ]
 
-module _ (T : Table) (s : List ℕ) (size : ℕ) where
-  pub by-header : decoded T s size ≡ onHeader T s size (headerAt s 0)
+module _ (s : List ℕ) (size : ℕ) where
+  pub by-header : decoded s size ≡ onHeader s size (headerAt s 0)
   unfolding decoded
   by-header = refl
 
-  pub decoded-turned : (f : Refusal) → headerAt s 0 ≡ turned f → decoded T s size ≡ nothingWritten (codeOf f)
-  decoded-turned f e = by-header ∙ ap (onHeader T s size) e ∙ each (λ (k : Code). onHeader T s size (byCode k) ≡ nothingWritten k) (λ n. refl) (λ n at. refl) f
+  pub decoded-turned : (f : Refusal) → headerAt s 0 ≡ turned f → decoded s size ≡ nothingWritten (codeOf f)
+  decoded-turned f e = by-header ∙ ap (onHeader s size) e ∙ each (λ (k : Code). onHeader s size (byCode k) ≡ nothingWritten k) (λ n. refl) (λ n at. refl) f
 
   module _ (sh : Shape) (next : ℕ) (e : headerAt s 0 ≡ done sh next) where
-    pub decoded-full : leb (length (header sh)) size ≡ false → decoded T s size ≡ nothingWritten (plain 11)
-    decoded-full l = by-header ∙ ap (onHeader T s size) e ∙ if-false _ _ _ l
+    pub decoded-full : leb (length (header sh)) size ≡ false → decoded s size ≡ nothingWritten (plain 11)
+    decoded-full l = by-header ∙ ap (onHeader s size) e ∙ if-false _ _ _ l
 
-    pub decoded-on : leb (length (header sh)) size ≡ true → decoded T s size ≡ behind (header sh) (rounds T s size (freshWindow T sh) next (length (header sh)))
-    decoded-on l = by-header ∙ ap (onHeader T s size) e ∙ if-true _ _ _ l
+    pub decoded-on : leb (length (header sh)) size ≡ true → decoded s size ≡ behind (header sh) (rounds (ofModel (sh .model)) s size (freshWindow (ofModel (sh .model)) sh) next (length (header sh)))
+    decoded-on l = by-header ∙ ap (onHeader s size) e ∙ if-true _ _ _ l

@@ -15,10 +15,10 @@ use Rattle.list.specs.Laws.{listed-is, length-skips, ones-nil, ones-set, ones-u
 use Rattle.shape.specs.Choice.{if, order}
 use Rattle.shape.specs.LawsSizes.{detectors-le, layer-le}
 use Rattle.shape.specs.Ranges.{ranged}
-use Rattle.shape.specs.Sizes.{inRange, layerEdgesOf, maxDetectors, maxLayerEdges}
-use Rattle.steps.specs.Steps.{Table, base}
-use Rattle.layers.specs.Layers.{layerEdges}
-use Rattle.layers.specs.Document.{count-0}
+use Rattle.shape.specs.Sizes.{inRange, maxDetectors, maxLayerEdges}
+use Rattle.steps.specs.Steps.{Table}
+use Rattle.steps.specs.Models.{ofModel}
+use Rattle.layers.specs.Document.{count-model}
 use Rattle.record.specs.Records.{result}
 use Rattle.window.specs.Window.{isRest, isToGrow}
 use Rattle.window.specs.Round.{rounded}
@@ -29,13 +29,6 @@ use Rattle.window.specs.LawsRun.{steps-rest, steps-on, none-left}
 use Rattle.window.specs.declared.Window.{Window}
 use Rattle.decoding.specs.Decoding.{budget, turnOf}
 use Rattle.decoding.specs.LawsTurn.{committed-long, escaped-long}
-
--- The streams have document 01's lengths: the tables whose layers are as long as the base table's
-abbrev pub LongAs01 : Table → Type 0
-LongAs01 T = (h d : ℕ) → layerEdges T h d ≡ layerEdgesOf h d
-
-pub long-base : LongAs01 base
-long-base = count-0
 
 ones-most : (xs : List ℕ) → ones xs ≤ length xs
 ones-most [] = rw ones-nil (omega arith)
@@ -83,18 +76,19 @@ maxRecord = 2 * maxLayerEdges + 1 + (2 * maxDetectors + 1) + 3
 pub record-fits : maxRecord ≤ 65536
 record-fits = omega arith
 
-pub turn-most : (T : Table) → LongAs01 T → (w : Window) (bytes : List ℕ) → inRange (w .shape .height) (w .shape .distance) ≡ true → length (result (turnOf T w bytes .result)) ≤ maxRecord
+pub turn-most : (m : ℕ) (w : Window) (bytes : List ℕ) → inRange (w .shape .height) (w .shape .distance) ≡ true → length (result (turnOf (ofModel m) w bytes .result)) ≤ maxRecord
 unfolding ran result
-turn-most T L w bytes e =
+turn-most m w bytes e =
+    let T = ofModel m in
     let h = w .shape .height in
     let d = w .shape .distance in
     let r = turnOf T w bytes .result in
     let a = listed-most (r .edges) in
     let b = listed-most (r .escapes) in
     let c = count-written (r .steps) (count-most T budget 0 (if (isToGrow (rounded T w bytes .stage)) (grown T (rounded T w bytes)) (rounded T w bytes))) in
-    let i = layer-le h d (ranged h d e) in
+    let i = layer-le m h d (ranged h d e) in
     let j = detectors-le h d (ranged h d e) in
-    let m = committed-long T w ∙ L h d in
+    let l = committed-long T w ∙ count-model m h d in
     let n = escaped-long w in
     let k : length (result r) ≡ length (listed (r .edges)) + (length (listed (r .escapes)) + length (written (r .steps))) = simp length-append refl in
     omega arith

@@ -1,4 +1,5 @@
--- THE PRINTED LINES of document 01 that are to be proved, on the rules themselves, and a session that shows absent rounds. Assumes nothing.
+-- THE PRINTED LINES of document 01 that are to be proved, with S-4's model behind the distance, on the rules themselves; a session that shows absent rounds,
+-- and one of model 1. Assumes nothing.
 use Prim.Native.Nat.{ℕ}
 use mathlib.Core.Path.{_≡_, refl}
 use mathlib.Core.Bool.{true, false}
@@ -9,6 +10,7 @@ use Rattle.shape.specs.Nodes as nodes
 use Rattle.steps.specs.Ranks as ranks
 use Rattle.steps.specs.Steps as steps
 use Rattle.steps.specs.Steps.{base}
+use Rattle.steps.specs.Models as models
 use Rattle.layers.specs.Layers as layers
 use Rattle.record.specs.Records as records
 use Rattle.trip.specs.Printed as stream
@@ -26,7 +28,7 @@ use Rattle.decoding.specs.Decoding.{Decoded, finished, decoded, roundsFr
 
 -- all the rules, for `unfolding`
 unfoldable opened : ℕ
-unfolding list.ones list.skips list.listed list.entriesAt list.listAt list.areBits number.written number.numberAt number.groups number.groupAt nodes.indexOf nodes.placeAt nodes.numberOf nodes.placeOf steps.base steps.across steps.joined steps.near steps.slot steps.naming ranks.rank ranks.pick layers.spans layers.edgeOf layers.layerEdges records.header records.headerFrom records.headerAt records.result lists.from lists.byPlace lists.every lists.any lists.all window.reach fresh.freshWindow formed.pointerFits formed.nodeFits formed.slotFitsAt formed.wellFormed round.committedEdges round.escapedDefects round.loweredNumber round.topNode round.fallenNode round.fallenSlot round.rounded grow.grownSlot grow.grownNode grow.grown merging.sees merging.syncedActive merging.arrivals merging.scan merging.floods merging.stepped merging.seen merging.stepAt merging.flippedSlot merging.merged run.stepsFrom run.ran calls.roundCall calls.runCall turnAt recordAt roundsFrom decoded
+unfolding list.ones list.skips list.listed list.entriesAt list.listAt list.areBits number.written number.numberAt number.groups number.groupAt nodes.indexOf nodes.placeAt nodes.numberOf nodes.placeOf steps.base models.circuit models.ofModel steps.across steps.joined steps.near steps.slot steps.naming ranks.rank ranks.pick layers.spans layers.edgeOf layers.layerEdges records.header records.headerAt records.result lists.from lists.byPlace lists.every lists.any lists.all window.reach fresh.freshWindow formed.pointerFits formed.nodeFits formed.slotFitsAt formed.wellFormed round.committedEdges round.escapedDefects round.loweredNumber round.topNode round.fallenNode round.fallenSlot round.rounded grow.grownSlot grow.grownNode grow.grown merging.sees merging.syncedActive merging.arrivals merging.scan merging.floods merging.stepped merging.seen merging.stepAt merging.flippedSlot merging.merged run.stepsFrom run.ran calls.roundCall calls.runCall turnAt recordAt roundsFrom decoded
 opened = 0
 
 -- into a buffer with room enough
@@ -38,24 +40,28 @@ gives bytes = record { output = bytes; line = finished }
 
 pub record Printed : Type 0 where
   -- 1 by 3, a defect at detector 0, three empty rounds: the fourth commits edge 0
-  pub first : decoded base (0x01 ∷ 0x03 ∷ 0x01 ∷ 0x00 ∷ 0x00 ∷ 0x00 ∷ 0x00 ∷ []) room
-      ≡ gives (0x01 ∷ 0x03 ∷ 0x00 ∷ 0x00 ∷ 0x02 ∷ 0x00 ∷ 0x00 ∷ 0x01 ∷ 0x00 ∷ 0x00 ∷ 0x04 ∷ 0x01 ∷ 0x00 ∷ 0x00 ∷ 0x02 ∷ [])
+  pub first : decoded (0x01 ∷ 0x03 ∷ 0x00 ∷ 0x01 ∷ 0x00 ∷ 0x00 ∷ 0x00 ∷ 0x00 ∷ []) room
+      ≡ gives (0x01 ∷ 0x03 ∷ 0x00 ∷ 0x00 ∷ 0x00 ∷ 0x02 ∷ 0x00 ∷ 0x00 ∷ 0x01 ∷ 0x00 ∷ 0x00 ∷ 0x04 ∷ 0x01 ∷ 0x00 ∷ 0x00 ∷ 0x02 ∷ [])
   -- both detectors
-  pub second : decoded base (0x01 ∷ 0x03 ∷ 0x02 ∷ 0x00 ∷ 0x00 ∷ 0x00 ∷ 0x00 ∷ 0x00 ∷ []) room
-      ≡ gives (0x01 ∷ 0x03 ∷ 0x00 ∷ 0x00 ∷ 0x02 ∷ 0x00 ∷ 0x00 ∷ 0x05 ∷ 0x00 ∷ 0x00 ∷ 0x01 ∷ 0x01 ∷ 0x01 ∷ 0x00 ∷ 0x01 ∷ [])
+  pub second : decoded (0x01 ∷ 0x03 ∷ 0x00 ∷ 0x02 ∷ 0x00 ∷ 0x00 ∷ 0x00 ∷ 0x00 ∷ 0x00 ∷ []) room
+      ≡ gives (0x01 ∷ 0x03 ∷ 0x00 ∷ 0x00 ∷ 0x00 ∷ 0x02 ∷ 0x00 ∷ 0x00 ∷ 0x05 ∷ 0x00 ∷ 0x00 ∷ 0x01 ∷ 0x01 ∷ 0x01 ∷ 0x00 ∷ 0x01 ∷ [])
   -- 1 by 2, one defect: west and east tie, west (edge 0) is committed
-  pub tie : decoded base (0x01 ∷ 0x02 ∷ 0x01 ∷ 0x00 ∷ 0x00 ∷ 0x00 ∷ 0x00 ∷ []) room
-      ≡ gives (0x01 ∷ 0x02 ∷ 0x00 ∷ 0x00 ∷ 0x02 ∷ 0x00 ∷ 0x00 ∷ 0x01 ∷ 0x00 ∷ 0x00 ∷ 0x03 ∷ 0x01 ∷ 0x00 ∷ 0x00 ∷ 0x02 ∷ [])
+  pub tie : decoded (0x01 ∷ 0x02 ∷ 0x00 ∷ 0x01 ∷ 0x00 ∷ 0x00 ∷ 0x00 ∷ 0x00 ∷ []) room
+      ≡ gives (0x01 ∷ 0x02 ∷ 0x00 ∷ 0x00 ∷ 0x00 ∷ 0x02 ∷ 0x00 ∷ 0x00 ∷ 0x01 ∷ 0x00 ∷ 0x00 ∷ 0x03 ∷ 0x01 ∷ 0x00 ∷ 0x00 ∷ 0x02 ∷ [])
   -- Not printed there: 1 by 4, a defect at detector 2, five empty rounds. Nothing grows into the rounds before the first, or the third run would
   -- make 4 steps
-  pub absent : decoded base (0x01 ∷ 0x04 ∷ 0x01 ∷ 0x02 ∷ 0x00 ∷ 0x00 ∷ 0x00 ∷ 0x00 ∷ 0x00 ∷ []) room
-      ≡ gives (0x01 ∷ 0x04 ∷ 0x00 ∷ 0x00 ∷ 0x02 ∷ 0x00 ∷ 0x00 ∷ 0x01 ∷ 0x00 ∷ 0x00 ∷ 0x03 ∷ 0x00 ∷ 0x00 ∷ 0x01 ∷ 0x00 ∷ 0x00 ∷ 0x01 ∷ 0x01 ∷ 0x03 ∷ 0x00 ∷ 0x02 ∷ [])
+  pub absent : decoded (0x01 ∷ 0x04 ∷ 0x00 ∷ 0x01 ∷ 0x02 ∷ 0x00 ∷ 0x00 ∷ 0x00 ∷ 0x00 ∷ 0x00 ∷ []) room
+      ≡ gives (0x01 ∷ 0x04 ∷ 0x00 ∷ 0x00 ∷ 0x00 ∷ 0x02 ∷ 0x00 ∷ 0x00 ∷ 0x01 ∷ 0x00 ∷ 0x00 ∷ 0x03 ∷ 0x00 ∷ 0x00 ∷ 0x01 ∷ 0x00 ∷ 0x00 ∷ 0x01 ∷ 0x01 ∷ 0x03 ∷ 0x00 ∷ 0x02 ∷ [])
+  -- Nor is this one: 2 by 3 of model 1, a defect at the first detector and, a round later, at the last one, two empty rounds; the fourth commits edge 16, a
+  -- diagonal SEU
+  pub diagonal : decoded (0x02 ∷ 0x03 ∷ 0x01 ∷ 0x01 ∷ 0x00 ∷ 0x01 ∷ 0x03 ∷ 0x00 ∷ 0x00 ∷ []) room
+      ≡ gives (0x02 ∷ 0x03 ∷ 0x01 ∷ 0x00 ∷ 0x00 ∷ 0x02 ∷ 0x00 ∷ 0x00 ∷ 0x02 ∷ 0x00 ∷ 0x00 ∷ 0x05 ∷ 0x01 ∷ 0x10 ∷ 0x00 ∷ 0x02 ∷ [])
   -- the lines of shapes, numbers and refused headers
   pub streams : stream.Printed
 
 pub printed : Printed
 unfolding opened
-printed = record { first = refl; second = refl; tie = refl; absent = refl; streams = stream.printed }
+printed = record { first = refl; second = refl; tie = refl; absent = refl; diagonal = refl; streams = stream.printed }
 
 -- FIRST SESSION, third round by run: budget 4 answers rest 4, budget 3 spent 3, and one step more then reaches rest
 
@@ -63,7 +69,7 @@ abbrev nextRound : Window → List ℕ → Window
 nextRound w bytes = run.ran base 65536 (round.rounded base w bytes) .window
 
 unfoldable pub third : Window
-third = round.rounded base (nextRound (nextRound (fresh.freshWindow base (record { height = 1; distance = 3 })) (1 ∷ 0 ∷ [])) (0 ∷ 0 ∷ [])) (0 ∷ 0 ∷ [])
+third = round.rounded base (nextRound (nextRound (fresh.freshWindow base (record { height = 1; distance = 3; model = 0 })) (1 ∷ 0 ∷ [])) (0 ∷ 0 ∷ [])) (0 ∷ 0 ∷ [])
 
 pub record Budgets : Type 0 where
   pub rest : run.ran base 4 third .rest ≡ true

@@ -5,14 +5,12 @@ use Rattle.refusal.specs.Answer.{nextOr}
 use Rattle.refusal.specs.Writing.{Buffered}
 use Rattle.number.specs.Number.{numberAt, writeNumber}
 use Rattle.list.specs.Sheet.{readList, writeList}
-use Rattle.shape.specs.Sizes.{nodesOf, detectorsOf, layerEdgesOf}
-use Rattle.steps.specs.Steps.{base}
 use Rattle.record.specs.Records.{headerAt}
 use Rattle.record.specs.Calls.{ResultBuffered, writeHeader, readRound, writeRound, readResult, writeResult, asResult}
 use Rattle.trip.specs.Streams.{inputOf, resultsOf}
 use Rattle.scan.specs.Scanned.{scanned}
 use Rattle.decoding.specs.Answers.{DecodeReturned, decodeLeaves}
-use Rattle.named.specs.Named.{shapeBy, sizeBy}
+use Rattle.named.specs.Named.{shapeBy}
 use Rattle.reply.specs.Reply.{Reply, replied, ValueOut, valueBy, HeaderOut, headerBy, ScanOut, scanBy, concluded}
 
 -- NUMBERS AND LISTS
@@ -51,14 +49,14 @@ abbrev pub taken : {Out : Type 0} → Out → ℕ → Taken Out
 taken out at = record { out = out; at = at }
 
 -- the header
-abbrev pub headerRead : List ℕ → ℕ → ℕ → ℕ → ℕ → HeaderOut
-headerRead src at height distance place = headerBy (headerAt src at) height distance place
+abbrev pub headerRead : List ℕ → ℕ → ℕ → ℕ → ℕ → ℕ → HeaderOut
+headerRead src at height distance model place = headerBy (headerAt src at) height distance model place
 
-abbrev pub headerTaken : List ℕ → ℕ → ℕ → ℕ → ℕ → Taken HeaderOut
-headerTaken src at height distance place = taken (headerRead src at height distance place) (nextOr (headerAt src at) at)
+abbrev pub headerTaken : List ℕ → ℕ → ℕ → ℕ → ℕ → ℕ → Taken HeaderOut
+headerTaken src at height distance model place = taken (headerRead src at height distance model place) (nextOr (headerAt src at) at)
 
-abbrev pub headerWritten : ℕ → ℕ → List ℕ → ℕ → ℕ → BufferOut
-headerWritten height distance out at place = bufferBy (writeHeader (shapeBy height distance) out at) place
+abbrev pub headerWritten : ℕ → ℕ → ℕ → List ℕ → ℕ → ℕ → BufferOut
+headerWritten height distance model out at place = bufferBy (writeHeader (shapeBy height distance model) out at) place
 
 -- a round of the input
 pub record RoundOut : Type 0 where
@@ -71,15 +69,15 @@ roundOut r defects = record { reply = r; defects = defects }
 abbrev pub roundBy : Buffered → ℕ → RoundOut
 roundBy l place = roundOut (replied (l .answer) place) (l .buffer)
 
-abbrev pub roundRead : ℕ → ℕ → List ℕ → ℕ → List ℕ → ℕ → RoundOut
-roundRead height distance src at defects place = roundBy (readRound (shapeBy height distance) src at defects) place
+abbrev pub roundRead : ℕ → ℕ → ℕ → List ℕ → ℕ → List ℕ → ℕ → RoundOut
+roundRead height distance model src at defects place = roundBy (readRound (shapeBy height distance model) src at defects) place
 
-abbrev pub roundTaken : ℕ → ℕ → List ℕ → ℕ → List ℕ → ℕ → Taken RoundOut
-roundTaken height distance src at defects place =
-    taken (roundRead height distance src at defects place) (nextOr (readRound (shapeBy height distance) src at defects .answer) at)
+abbrev pub roundTaken : ℕ → ℕ → ℕ → List ℕ → ℕ → List ℕ → ℕ → Taken RoundOut
+roundTaken height distance model src at defects place =
+    taken (roundRead height distance model src at defects place) (nextOr (readRound (shapeBy height distance model) src at defects .answer) at)
 
-abbrev pub roundWritten : ℕ → ℕ → List ℕ → List ℕ → ℕ → ℕ → BufferOut
-roundWritten height distance defects out at place = bufferBy (writeRound (shapeBy height distance) defects out at) place
+abbrev pub roundWritten : ℕ → ℕ → ℕ → List ℕ → List ℕ → ℕ → ℕ → BufferOut
+roundWritten height distance model defects out at place = bufferBy (writeRound (shapeBy height distance model) defects out at) place
 
 -- a round of the result
 pub record ResultOut : Type 0 where
@@ -94,26 +92,26 @@ resultOut r edges escapes steps = record { reply = r; edges = edges; escapes = e
 abbrev pub resultBy : ResultBuffered → ℕ → ℕ → ResultOut
 resultBy l steps place = resultOut (valueBy (l .answer) steps place .reply) (l .edges) (l .escapes) (valueBy (l .answer) steps place .value)
 
-abbrev pub resultRead : ℕ → ℕ → List ℕ → ℕ → List ℕ → List ℕ → ℕ → ℕ → ResultOut
-resultRead height distance src at edges escapes steps place = resultBy (readResult (shapeBy height distance) src at edges escapes) steps place
+abbrev pub resultRead : ℕ → ℕ → ℕ → List ℕ → ℕ → List ℕ → List ℕ → ℕ → ℕ → ResultOut
+resultRead height distance model src at edges escapes steps place = resultBy (readResult (shapeBy height distance model) src at edges escapes) steps place
 
-abbrev pub resultTaken : ℕ → ℕ → List ℕ → ℕ → List ℕ → List ℕ → ℕ → ℕ → Taken ResultOut
-resultTaken height distance src at edges escapes steps place =
+abbrev pub resultTaken : ℕ → ℕ → ℕ → List ℕ → ℕ → List ℕ → List ℕ → ℕ → ℕ → Taken ResultOut
+resultTaken height distance model src at edges escapes steps place =
     taken
-    (resultRead height distance src at edges escapes steps place)
-    (nextOr (readResult (shapeBy height distance) src at edges escapes .answer) at)
+    (resultRead height distance model src at edges escapes steps place)
+    (nextOr (readResult (shapeBy height distance model) src at edges escapes .answer) at)
 
-abbrev pub resultWritten : ℕ → ℕ → List ℕ → List ℕ → ℕ → List ℕ → ℕ → ℕ → BufferOut
-resultWritten height distance edges escapes steps out at place =
-    bufferBy (writeResult (shapeBy height distance) (asResult edges escapes steps) out at) place
+abbrev pub resultWritten : ℕ → ℕ → ℕ → List ℕ → List ℕ → ℕ → List ℕ → ℕ → ℕ → BufferOut
+resultWritten height distance model edges escapes steps out at place =
+    bufferBy (writeResult (shapeBy height distance model) (asResult edges escapes steps) out at) place
 
 -- WHOLE STREAMS
 
-abbrev pub inputScanned : List ℕ → ℕ → ℕ → ℕ → ℕ → ScanOut
-inputScanned src height distance rounds place = scanBy (scanned (inputOf src)) height distance rounds place
+abbrev pub inputScanned : List ℕ → ℕ → ℕ → ℕ → ℕ → ℕ → ScanOut
+inputScanned src height distance model rounds place = scanBy (scanned (inputOf src)) height distance model rounds place
 
-abbrev pub resultsScanned : List ℕ → ℕ → ℕ → ℕ → ℕ → ScanOut
-resultsScanned src height distance rounds place = scanBy (scanned (resultsOf src)) height distance rounds place
+abbrev pub resultsScanned : List ℕ → ℕ → ℕ → ℕ → ℕ → ℕ → ScanOut
+resultsScanned src height distance model rounds place = scanBy (scanned (resultsOf src)) height distance model rounds place
 
 pub record DecodeOut : Type 0 where
   pub reply : Reply
@@ -127,15 +125,4 @@ abbrev pub decodeBy : DecodeReturned → ℕ → DecodeOut
 decodeBy l place = decodeOut (concluded (l .line) place) (l .buffer) (l .count)
 
 abbrev pub streamDecoded : List ℕ → List ℕ → ℕ → DecodeOut
-streamDecoded src out place = decodeBy (decodeLeaves base src out) place
-
--- THE SIZES of a shape, 0 where it is refused
-
-abbrev pub nodesBy : ℕ → ℕ → ℕ
-nodesBy height distance = sizeBy nodesOf height distance
-
-abbrev pub detectorsBy : ℕ → ℕ → ℕ
-detectorsBy height distance = sizeBy detectorsOf height distance
-
-abbrev pub edgesBy : ℕ → ℕ → ℕ
-edgesBy height distance = sizeBy layerEdgesOf height distance
+streamDecoded src out place = decodeBy (decodeLeaves src out) place

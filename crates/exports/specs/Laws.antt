@@ -27,10 +27,10 @@ decode-out place =
     parts (λ (v : ValueOut) (l : DecodeReturned). decodeOut (v .reply) (l .buffer) (v .value)) (λ (l : DecodeReturned). countBy (l .line) (l .count) place)
 
 module _ (at place : ℕ) {n : ℕ} where
-  pub header-out : (height distance : ℕ) {x l : Answer Shape} {h : HeaderOut} → x ≡ l → h ≡ headerBy x height distance place → n ≡ nextOr x at
-      → taken h n ≡ taken (headerBy l height distance place) (nextOr l at)
-  header-out height distance =
-      taken-parts (λ (h : HeaderOut) (l : Answer Shape). h) (λ (l : Answer Shape). headerBy l height distance place) (λ (l : Answer Shape). nextOr l at)
+  pub header-out : (height distance model : ℕ) {x l : Answer Shape} {h : HeaderOut} → x ≡ l → h ≡ headerBy x height distance model place → n ≡ nextOr x at
+      → taken h n ≡ taken (headerBy l height distance model place) (nextOr l at)
+  header-out height distance model =
+      taken-parts (λ (h : HeaderOut) (l : Answer Shape). h) (λ (l : Answer Shape). headerBy l height distance model place) (λ (l : Answer Shape). nextOr l at)
 
   pub round-out : {x l : Buffered} {r : Reply} → x ≡ l → r ≡ replied (x .answer) place → n ≡ nextOr (x .answer) at
       → taken (roundOut r (x .buffer)) n ≡ taken (roundBy l place) (nextOr (l .answer) at)

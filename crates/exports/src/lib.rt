@@ -1,6 +1,6 @@
 // Streams and decoding for programs in C: numbers, byte slices and lent numbers only. Each call ensures one equation, between a record of what
 // its caller sees, by the header's names, and what `specs/Calls.antt` makes of the arguments. `crates/reply` has the status and the place,
-// `crates/named` the shape that a height and a distance name.
+// `crates/named` the shape that a height, a distance and a model name, with its sizes.
 //
 // A reader or writer returns 0 where it is done, 255 where no bytes are left, and else the refusal's number; unless it returns 0, it leaves
 // every buffer, value and lent offset as it was. `place` takes the offset behind the record, or that of the number's first byte with 7, 8 and 9,
@@ -8,7 +8,8 @@
 // at the front of `out`, the header if it was read and the finished rounds, and the bytes behind stay.
 ghost use mathlib.Core.Path.{_≡_};
 ghost use Rattle.reply.specs.Reply.{reply, valueOut, headerOut, scanOut};
-ghost use Rattle.exports.specs.Calls.{numberRead, bufferOut, numberWritten, listRead, listWritten, taken, headerRead, headerTaken, headerWritten, roundOut, roundRead, roundTaken, roundWritten, resultOut, resultRead, resultTaken, resultWritten, inputScanned, resultsScanned, decodeOut, streamDecoded, nodesBy, detectorsBy, edgesBy};
+ghost use Rattle.exports.specs.Calls.{numberRead, bufferOut, numberWritten, listRead, listWritten, taken, headerRead, headerTaken, headerWritten, roundOut, roundRead, roundTaken, roundWritten, resultOut, resultRead, resultTaken, resultWritten, inputScanned, resultsScanned, decodeOut, streamDecoded};
+ghost use Rattle.named.specs.Named.{nodesBy, detectorsBy, edgesBy};
 
 #[no_mangle]
 pub extern "C" fn baizeridge_read_number(
@@ -69,12 +70,13 @@ pub extern "C" fn baizeridge_take_header(
     at: &mut usize,
     height: &mut u32,
     distance: &mut u32,
+    model: &mut u32,
     place: &mut usize,
 ) -> u8
-    ensures { λ r. ⌜ taken (headerOut (reply r (now (place .exit))) (now (height .exit)) (now (distance .exit))) (now (at .exit)) ≡ headerTaken (now (src .entry)) (now (at .entry)) (now (height .entry)) (now (distance .entry)) (now (place .entry)) ⌝ }
+    ensures { λ r. ⌜ taken (headerOut (reply r (now (place .exit))) (now (height .exit)) (now (distance .exit)) (now (model .exit))) (now (at .exit)) ≡ headerTaken (now (src .entry)) (now (at .entry)) (now (height .entry)) (now (distance .entry)) (now (model .entry)) (now (place .entry)) ⌝ }
 {
     let h = stream::take_header(src, at);
-    reply::header(h, height, distance, place)
+    reply::header(h, height, distance, model, place)
 }
 
 #[no_mangle]
@@ -83,25 +85,27 @@ pub extern "C" fn baizeridge_read_header(
     at: usize,
     height: &mut u32,
     distance: &mut u32,
+    model: &mut u32,
     place: &mut usize,
 ) -> u8
-    ensures { λ r. ⌜ headerOut (reply r (now (place .exit))) (now (height .exit)) (now (distance .exit)) ≡ headerRead (now (src .entry)) at (now (height .entry)) (now (distance .entry)) (now (place .entry)) ⌝ }
+    ensures { λ r. ⌜ headerOut (reply r (now (place .exit))) (now (height .exit)) (now (distance .exit)) (now (model .exit)) ≡ headerRead (now (src .entry)) at (now (height .entry)) (now (distance .entry)) (now (model .entry)) (now (place .entry)) ⌝ }
 {
     let mut from = at;
-    baizeridge_take_header(src, &mut from, height, distance, place)
+    baizeridge_take_header(src, &mut from, height, distance, model, place)
 }
 
 #[no_mangle]
 pub extern "C" fn baizeridge_write_header(
     height: u32,
     distance: u32,
+    model: u32,
     out: &mut [u8],
     at: usize,
     place: &mut usize,
 ) -> u8
-    ensures { λ r. ⌜ bufferOut (reply r (now (place .exit))) (now (out .exit)) ≡ headerWritten height distance (now (out .entry)) at (now (place .entry)) ⌝ }
+    ensures { λ r. ⌜ bufferOut (reply r (now (place .exit))) (now (out .exit)) ≡ headerWritten height distance model (now (out .entry)) at (now (place .entry)) ⌝ }
 {
-    let shape = named::shape_by(height, distance);
+    let shape = named::shape_by(height, distance, model);
     let w = record::write_header(shape, out, at);
     reply::wrote(w, place)
 }
@@ -110,14 +114,15 @@ pub extern "C" fn baizeridge_write_header(
 pub extern "C" fn baizeridge_take_round(
     height: u32,
     distance: u32,
+    model: u32,
     src: &[u8],
     at: &mut usize,
     defects: &mut [u8],
     place: &mut usize,
 ) -> u8
-    ensures { λ r. ⌜ taken (roundOut (reply r (now (place .exit))) (now (defects .exit))) (now (at .exit)) ≡ roundTaken height distance (now (src .entry)) (now (at .entry)) (now (defects .entry)) (now (place .entry)) ⌝ }
+    ensures { λ r. ⌜ taken (roundOut (reply r (now (place .exit))) (now (defects .exit))) (now (at .exit)) ≡ roundTaken height distance model (now (src .entry)) (now (at .entry)) (now (defects .entry)) (now (place .entry)) ⌝ }
 {
-    let shape = named::shape_by(height, distance);
+    let shape = named::shape_by(height, distance, model);
     let d = stream::take_round(shape, src, at, defects);
     reply::round(d, place)
 }
@@ -126,29 +131,31 @@ pub extern "C" fn baizeridge_take_round(
 pub extern "C" fn baizeridge_read_round(
     height: u32,
     distance: u32,
+    model: u32,
     src: &[u8],
     at: usize,
     defects: &mut [u8],
     place: &mut usize,
 ) -> u8
-    ensures { λ r. ⌜ roundOut (reply r (now (place .exit))) (now (defects .exit)) ≡ roundRead height distance (now (src .entry)) at (now (defects .entry)) (now (place .entry)) ⌝ }
+    ensures { λ r. ⌜ roundOut (reply r (now (place .exit))) (now (defects .exit)) ≡ roundRead height distance model (now (src .entry)) at (now (defects .entry)) (now (place .entry)) ⌝ }
 {
     let mut from = at;
-    baizeridge_take_round(height, distance, src, &mut from, defects, place)
+    baizeridge_take_round(height, distance, model, src, &mut from, defects, place)
 }
 
 #[no_mangle]
 pub extern "C" fn baizeridge_write_round(
     height: u32,
     distance: u32,
+    model: u32,
     defects: &[u8],
     out: &mut [u8],
     at: usize,
     place: &mut usize,
 ) -> u8
-    ensures { λ r. ⌜ bufferOut (reply r (now (place .exit))) (now (out .exit)) ≡ roundWritten height distance (now (defects .entry)) (now (out .entry)) at (now (place .entry)) ⌝ }
+    ensures { λ r. ⌜ bufferOut (reply r (now (place .exit))) (now (out .exit)) ≡ roundWritten height distance model (now (defects .entry)) (now (out .entry)) at (now (place .entry)) ⌝ }
 {
-    let shape = named::shape_by(height, distance);
+    let shape = named::shape_by(height, distance, model);
     let w = input::write_round(shape, defects, out, at);
     reply::wrote(w, place)
 }
@@ -157,6 +164,7 @@ pub extern "C" fn baizeridge_write_round(
 pub extern "C" fn baizeridge_take_result(
     height: u32,
     distance: u32,
+    model: u32,
     src: &[u8],
     at: &mut usize,
     edges: &mut [u8],
@@ -164,9 +172,9 @@ pub extern "C" fn baizeridge_take_result(
     steps: &mut u32,
     place: &mut usize,
 ) -> u8
-    ensures { λ r. ⌜ taken (resultOut (reply r (now (place .exit))) (now (edges .exit)) (now (escapes .exit)) (now (steps .exit))) (now (at .exit)) ≡ resultTaken height distance (now (src .entry)) (now (at .entry)) (now (edges .entry)) (now (escapes .entry)) (now (steps .entry)) (now (place .entry)) ⌝ }
+    ensures { λ r. ⌜ taken (resultOut (reply r (now (place .exit))) (now (edges .exit)) (now (escapes .exit)) (now (steps .exit))) (now (at .exit)) ≡ resultTaken height distance model (now (src .entry)) (now (at .entry)) (now (edges .entry)) (now (escapes .entry)) (now (steps .entry)) (now (place .entry)) ⌝ }
 {
-    let shape = named::shape_by(height, distance);
+    let shape = named::shape_by(height, distance, model);
     let d = stream::take_result(shape, src, at, edges, escapes);
     reply::result(d, steps, place)
 }
@@ -175,6 +183,7 @@ pub extern "C" fn baizeridge_take_result(
 pub extern "C" fn baizeridge_read_result(
     height: u32,
     distance: u32,
+    model: u32,
     src: &[u8],
     at: usize,
     edges: &mut [u8],
@@ -182,12 +191,13 @@ pub extern "C" fn baizeridge_read_result(
     steps: &mut u32,
     place: &mut usize,
 ) -> u8
-    ensures { λ r. ⌜ resultOut (reply r (now (place .exit))) (now (edges .exit)) (now (escapes .exit)) (now (steps .exit)) ≡ resultRead height distance (now (src .entry)) at (now (edges .entry)) (now (escapes .entry)) (now (steps .entry)) (now (place .entry)) ⌝ }
+    ensures { λ r. ⌜ resultOut (reply r (now (place .exit))) (now (edges .exit)) (now (escapes .exit)) (now (steps .exit)) ≡ resultRead height distance model (now (src .entry)) at (now (edges .entry)) (now (escapes .entry)) (now (steps .entry)) (now (place .entry)) ⌝ }
 {
     let mut from = at;
     baizeridge_take_result(
         height,
         distance,
+        model,
         src,
         &mut from,
         edges,
@@ -201,6 +211,7 @@ pub extern "C" fn baizeridge_read_result(
 pub extern "C" fn baizeridge_write_result(
     height: u32,
     distance: u32,
+    model: u32,
     edges: &[u8],
     escapes: &[u8],
     steps: u32,
@@ -208,9 +219,9 @@ pub extern "C" fn baizeridge_write_result(
     at: usize,
     place: &mut usize,
 ) -> u8
-    ensures { λ r. ⌜ bufferOut (reply r (now (place .exit))) (now (out .exit)) ≡ resultWritten height distance (now (edges .entry)) (now (escapes .entry)) steps (now (out .entry)) at (now (place .entry)) ⌝ }
+    ensures { λ r. ⌜ bufferOut (reply r (now (place .exit))) (now (out .exit)) ≡ resultWritten height distance model (now (edges .entry)) (now (escapes .entry)) steps (now (out .entry)) at (now (place .entry)) ⌝ }
 {
-    let shape = named::shape_by(height, distance);
+    let shape = named::shape_by(height, distance, model);
     let w = result_writer::write_result(shape, edges, escapes, steps, out, at);
     reply::wrote(w, place)
 }
@@ -221,13 +232,14 @@ pub extern "C" fn baizeridge_scan_input(
     src: &[u8],
     height: &mut u32,
     distance: &mut u32,
+    model: &mut u32,
     rounds: &mut usize,
     place: &mut usize,
 ) -> u8
-    ensures { λ r. ⌜ scanOut (reply r (now (place .exit))) (now (height .exit)) (now (distance .exit)) (now (rounds .exit)) ≡ inputScanned (now (src .entry)) (now (height .entry)) (now (distance .entry)) (now (rounds .entry)) (now (place .entry)) ⌝ }
+    ensures { λ r. ⌜ scanOut (reply r (now (place .exit))) (now (height .exit)) (now (distance .exit)) (now (model .exit)) (now (rounds .exit)) ≡ inputScanned (now (src .entry)) (now (height .entry)) (now (distance .entry)) (now (model .entry)) (now (rounds .entry)) (now (place .entry)) ⌝ }
 {
     let s = stream::scan_input(src);
-    reply::stream(s, src.len(), height, distance, rounds, place)
+    reply::stream(s, src.len(), height, distance, model, rounds, place)
 }
 
 // Reads a whole result stream in the same way.
@@ -236,37 +248,38 @@ pub extern "C" fn baizeridge_scan_results(
     src: &[u8],
     height: &mut u32,
     distance: &mut u32,
+    model: &mut u32,
     rounds: &mut usize,
     place: &mut usize,
 ) -> u8
-    ensures { λ r. ⌜ scanOut (reply r (now (place .exit))) (now (height .exit)) (now (distance .exit)) (now (rounds .exit)) ≡ resultsScanned (now (src .entry)) (now (height .entry)) (now (distance .entry)) (now (rounds .entry)) (now (place .entry)) ⌝ }
+    ensures { λ r. ⌜ scanOut (reply r (now (place .exit))) (now (height .exit)) (now (distance .exit)) (now (model .exit)) (now (rounds .exit)) ≡ resultsScanned (now (src .entry)) (now (height .entry)) (now (distance .entry)) (now (model .entry)) (now (rounds .entry)) (now (place .entry)) ⌝ }
 {
     let s = stream::scan_results(src);
-    reply::stream(s, src.len(), height, distance, rounds, place)
+    reply::stream(s, src.len(), height, distance, model, rounds, place)
 }
 
 // The sizes of a shape, 0 where it is refused: the nodes of its window,
 #[no_mangle]
-pub extern "C" fn baizeridge_nodes(height: u32, distance: u32) -> usize
-    ensures { λ r. ⌜ r ≡ nodesBy height distance ⌝ }
+pub extern "C" fn baizeridge_nodes(height: u32, distance: u32, model: u32) -> usize
+    ensures { λ r. ⌜ r ≡ nodesBy height distance model ⌝ }
 {
-    named::nodes(height, distance)
+    named::nodes(height, distance, model)
 }
 
 // the detectors of a sheet,
 #[no_mangle]
-pub extern "C" fn baizeridge_detectors(height: u32, distance: u32) -> usize
-    ensures { λ r. ⌜ r ≡ detectorsBy height distance ⌝ }
+pub extern "C" fn baizeridge_detectors(height: u32, distance: u32, model: u32) -> usize
+    ensures { λ r. ⌜ r ≡ detectorsBy height distance model ⌝ }
 {
-    named::detectors(height, distance)
+    named::detectors(height, distance, model)
 }
 
 // and the edges of a layer.
 #[no_mangle]
-pub extern "C" fn baizeridge_layer_edges(height: u32, distance: u32) -> usize
-    ensures { λ r. ⌜ r ≡ edgesBy height distance ⌝ }
+pub extern "C" fn baizeridge_layer_edges(height: u32, distance: u32, model: u32) -> usize
+    ensures { λ r. ⌜ r ≡ edgesBy height distance model ⌝ }
 {
-    named::layer_edges(height, distance)
+    named::layer_edges(height, distance, model)
 }
 
 // Decodes a whole input stream. The result stream goes to the front of out, and count takes its length, however it ends: the header's bytes, if

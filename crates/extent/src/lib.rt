@@ -8,7 +8,7 @@ use shape::Shaped;
 use shape::Tested;
 ghost use mathlib.Core.Path.{_≡_};
 ghost use Prim.Native.Nat.{_-_, _^_, _≤_};
-ghost use Rattle.shape.specs.Sizes.{heightOk, distanceOk, inRange, shapeOf, shapeFine, shapeAnswer, testedAnswer, sheetsOf, boundary, detectorsOf, layerEdgesOf, nodesIn, nodesOf};
+ghost use Rattle.shape.specs.Sizes.{heightOk, distanceOk, modelOk, inRange, shapeOf, shapeFine, shapeAnswer, testedAnswer, sheetsOf, boundary, detectorsOf, plainEdges, diagonalEdges, layerEdgesOf, nodesIn, nodesOf};
 ghost use Rattle.shape.specs.Nodes.{side as sideOf, numberOf, indexOf};
 ghost use Rattle.shape.specs.Limits.{Factors, Product};
 
@@ -26,6 +26,15 @@ pub fn less_one(x: u8) -> usize
         return 0;
     }
     wide(x - 1)
+}
+
+fn less_two(x: u8) -> usize
+    ensures { λ r. ⌜ r ≡ x - 2 ⌝ }
+{
+    if x < 2 {
+        return 0;
+    }
+    wide(x - 2)
 }
 
 // A product of small numbers, with a bound that sums can go by.
@@ -48,8 +57,14 @@ pub fn distance_ok(d: u32) -> bool
     (2 <= d) & (d <= MAX_DISTANCE as u32)
 }
 
-pub fn shape_of(height: u32, distance: u32) -> Shaped
-    ensures { λ r. ⌜ shapeAnswer r ≡ shapeOf height distance ⌝ }
+pub fn model_ok(m: u32) -> bool
+    ensures { λ r. ⌜ r ≡ modelOk m ⌝ }
+{
+    m <= 1
+}
+
+pub fn shape_of(height: u32, distance: u32, model: u32) -> Shaped
+    ensures { λ r. ⌜ shapeAnswer r ≡ shapeOf height distance model ⌝ }
 {
     if !height_ok(height) {
         return Shaped::Refused(Refusal::Height);
@@ -57,9 +72,13 @@ pub fn shape_of(height: u32, distance: u32) -> Shaped
     if !distance_ok(distance) {
         return Shaped::Refused(Refusal::Distance);
     }
+    if !model_ok(model) {
+        return Shaped::Refused(Refusal::Model);
+    }
     Shaped::Shape(Shape {
         height: height as u8,
         distance: distance as u8,
+        model: model as u8,
     })
 }
 
@@ -72,6 +91,9 @@ pub fn in_range(shape: Shape) -> Tested
     }
     if !distance_ok(shape.distance as u32) {
         return Tested::Refused(Refusal::Distance);
+    }
+    if !model_ok(shape.model as u32) {
+        return Tested::Refused(Refusal::Model);
     }
     Tested::Fine
 }
@@ -100,12 +122,32 @@ pub fn detectors(shape: Shape) -> usize
     product(wide(shape.height), less_one(shape.distance))
 }
 
-pub fn layer_edges(shape: Shape) -> usize
-    ensures { λ r. ⌜ r ≡ layerEdgesOf (shape .height) (shape .distance) ⌝ }
+// The diagonals of a layer: NU, EU, SEU.
+fn diagonal_edges(shape: Shape) -> usize
+    ensures { λ r. ⌜ (r ≡ diagonalEdges (shape .height) (shape .distance)) × (r ≤ 2 ^ 20) ⌝ }
+{
+    let h = wide(shape.height);
+    let rows = less_one(shape.height);
+    let columns = less_two(shape.distance);
+    product(rows, less_one(shape.distance)) + product(h, columns) + product(rows, columns)
+}
+
+fn plain_edges(shape: Shape) -> usize
+    ensures { λ r. ⌜ (r ≡ plainEdges (shape .height) (shape .distance)) × (r ≤ 2 ^ 20) ⌝ }
 {
     let h = wide(shape.height);
     let inner = less_one(shape.distance);
     product(h, wide(shape.distance)) + product(less_one(shape.height), inner) + product(h, inner)
+}
+
+// The edges of a layer.
+pub fn layer_edges(shape: Shape) -> usize
+    ensures { λ r. ⌜ r ≡ layerEdgesOf (shape .model) (shape .height) (shape .distance) ⌝ }
+{
+    if shape.model == 1 {
+        return plain_edges(shape) + diagonal_edges(shape);
+    }
+    plain_edges(shape)
 }
 
 pub fn nodes(shape: Shape) -> usize

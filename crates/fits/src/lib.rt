@@ -1,7 +1,6 @@
 // Whether one node and its slots are well-formed.
 use shape::Place;
 use shape::Shape;
-use steps::KINDS;
 use window::Mark;
 use window::Node;
 use window::Stage;
@@ -9,7 +8,8 @@ ghost use mathlib.Core.Path.{_≡_};
 ghost use Prim.Native.Nat.{_+_, _*_, _≤_, _<_};
 ghost use lib.ListN.{length};
 ghost use Rattle.shape.specs.Sizes.{sheetsOf, nodesIn, maxNodes};
-ghost use Rattle.steps.specs.Steps.{base, namer};
+ghost use Rattle.steps.specs.Steps.{namer};
+ghost use Rattle.steps.specs.Models.{ofModel};
 ghost use Rattle.walk.specs.Walk.{Stands};
 ghost use Rattle.window.specs.Lists.{every};
 ghost use Rattle.window.specs.Window.{reach};
@@ -34,7 +34,7 @@ pub fn numbers(shape: Shape) -> usize
 
 // Pointers go along edges between so many sheets.
 fn pointer_fits(shape: Shape, sheets: usize, place: Place, pointer: u8) -> bool
-    ensures { λ r. ⌜ r ≡ pointerFits base (shape .height) (shape .distance) sheets place pointer ⌝ }
+    ensures { λ r. ⌜ r ≡ pointerFits (ofModel (shape .model)) (shape .height) (shape .distance) sheets place pointer ⌝ }
 {
     if pointer == 0 {
         return true;
@@ -66,7 +66,7 @@ pub fn node_fits(
 ) -> bool
     requires { ⌜ Stands (shape .height) (shape .distance) place g ⌝ }
     requires { ⌜ marks ≡ nodesIn (shape .height) (shape .distance) (sheetsOf (shape .distance) + 1) ⌝ }
-    ensures { λ r. ⌜ r ≡ nodeFits base stage (shape .height) (shape .distance) there led place node ⌝ }
+    ensures { λ r. ⌜ r ≡ nodeFits (ofModel (shape .model)) stage (shape .height) (shape .distance) there led place node ⌝ }
 {
     if there <= place.depth as usize {
         return is_fresh(walk::number(shape, place, g), node);
@@ -94,12 +94,12 @@ fn slot_fits(
     halves: u8,
     correction: bool,
 ) -> bool
-    ensures { λ r. ⌜ r ≡ slotFits (reach base (shape .height) (shape .distance) sheets (namer base kind) place .there) halves correction ⌝ }
+    ensures { λ r. ⌜ r ≡ slotFits (reach (ofModel (shape .model)) (shape .height) (shape .distance) sheets (namer (ofModel (shape .model)) kind) place .there) halves correction ⌝ }
 {
     if (halves == 0) & !correction {
         return true;
     }
-    (halves <= 2) & joins::joined(shape, sheets, steps::namer(kind), place)
+    (halves <= 2) & joins::joined(shape, sheets, steps::namer(shape.model, kind), place)
 }
 
 // The slots of node g, one a kind, of a window of n nodes.
@@ -113,12 +113,13 @@ pub fn slots_fit<'a>(
     correction: &'a [bool],
 ) -> bool
     requires { ⌜ (g < n) × (n ≤ maxNodes) ⌝ }
-    requires { ⌜ (3 * n ≤ length (now growth)) × (3 * n ≤ length (now correction)) ⌝ }
-    ensures { λ r. ⌜ r ≡ every 3 (slotBy base (shape .height) (shape .distance) sheets n place g (now (growth .entry)) (now (correction .entry))) ⌝ }
+    requires { ⌜ (ofModel (shape .model) .kinds * n ≤ length (now growth)) × (ofModel (shape .model) .kinds * n ≤ length (now correction)) ⌝ }
+    ensures { λ r. ⌜ r ≡ every (ofModel (shape .model) .kinds) (slotBy (ofModel (shape .model)) (shape .height) (shape .distance) sheets n place g (now (growth .entry)) (now (correction .entry))) ⌝ }
 {
+    let kinds = steps::kinds(shape.model);
     let mut kind: u8 = 0;
     let mut e = g;
-    while kind < KINDS {
+    while kind < kinds {
         if !slot_fits(shape, sheets, place, kind, growth[e], correction[e]) {
             return false;
         }

@@ -9,10 +9,11 @@ use Rattle.refusal.specs.Laws.{turned-not, turned-passed, value-not, turned-as}
 use Rattle.refusal.specs.Done.{took}
 use Rattle.refusal.specs.declared.Refusal.{Refusal}
 use Rattle.shape.specs.Ranges.{both}
-use Rattle.shape.specs.Sizes.{shapeAnswer, heightOk, distanceOk, shapeOf, inRange, sheetsOf, nodesOf, maxNodes, maxDetectors}
-use Rattle.steps.specs.Steps.{base}
+use Rattle.shape.specs.Sizes.{shapeAnswer, heightOk, distanceOk, modelOk, shapeOf, inRange, sheetsOf, nodesOf, maxNodes, maxDetectors}
+use Rattle.steps.specs.Steps.{Table}
+use Rattle.steps.specs.Models.{ofModel}
 use Rattle.window.specs.Window.{alone, unused, maxSlots}
-use Rattle.window.specs.Fresh.{freshWindow, noWindow, slots-base}
+use Rattle.window.specs.Fresh.{freshWindow, noWindow, slots-model}
 use Rattle.window.specs.Calls.{Answered, given, leaves, freshCall}
 use Rattle.shape.specs.Nodes.{numberOf, placeAt}
 use Rattle.shape.specs.declared.Place.{Place}
@@ -29,30 +30,40 @@ use Rattle.window.specs.declared.Window.{Window}
 same-shape : (a b : Shape) → _≡_ {A = Answer Shape} (done a 0) (done b 0) → a ≡ b
 same-shape a b e = cc
 
-freshAs : Answer Shape → Answered (Unit {0})
-freshAs a = leaves (andThen a (λ sh n. done (freshWindow base sh) n)) itself noWindow
+freshAs : Table → Answer Shape → Answered (Unit {0})
+freshAs T a = leaves (andThen a (λ sh n. done (freshWindow T sh) n)) itself noWindow
 
-module _ (h d : ℕ) (r : Shaped) (made : shapeAnswer r ≡ shapeOf h d) where
-  pub fresh-refused : (f : Refusal) → r ≡ shaped.Refused f → given (turned f) noWindow ≡ leaves (freshCall base h d) itself noWindow
+module _ (h d m : ℕ) (r : Shaped) (made : shapeAnswer r ≡ shapeOf h d m) where
+  pub fresh-refused : (f : Refusal) → r ≡ shaped.Refused f → given (turned f) noWindow ≡ leaves (freshCall (ofModel m) h d m) itself noWindow
   unfolding freshCall freshAs
   fresh-refused f z =
       let e = ap shapeAnswer (sym z) ∙ made in
-      sym (ap freshAs (sym e) ∙ ap (λ (a : Answer Window). leaves a itself noWindow) (turned-as {B = Window} f (λ sh n. done (freshWindow base sh) n)) ∙ rw (
+      sym (ap (freshAs (ofModel m)) (sym e) ∙ ap (λ (a : Answer Window). leaves a itself noWindow) (turned-as {B = Window} f (λ sh n. done (freshWindow (ofModel m) sh) n)) ∙ rw (
         turned-passed Window f,
         value-not (turned {A = Window} f) itself noWindow (turned-not Window f),
       ))
 
-  pub fresh-done : (sh : Shape) (v : Window) → r ≡ shaped.Shape sh → v ≡ freshWindow base sh → given (done tt 0) v ≡ leaves (freshCall base h d) itself noWindow
-  unfolding freshCall freshAs
-  fresh-done sh v z y = ap (λ (x : Window). given (done tt 0) x) y ∙ sym (ap freshAs (sym made ∙ ap shapeAnswer z))
+  -- a shape that was made is of these numbers, and in range
+  record Made (sh : Shape) : Type 0 where
+    height : heightOk h ≡ true
+    distance : distanceOk d ≡ true
+    same : _≡_ {A = Shape} (record { height = h; distance = d; model = m }) sh
 
-  -- a shape that was made is in range
-  pub shape-ranged : (sh : Shape) → r ≡ shaped.Shape sh → inRange (sh .height) (sh .distance) ≡ true
-  shape-ranged sh z =
+  made-of : (sh : Shape) → r ≡ shaped.Shape sh → Made sh
+  made-of sh z =
       let a = took (heightOk h) _ (refused 1) sh 0 refl (sym made ∙ ap shapeAnswer z) in
       let b = took (distanceOk d) _ (refused 2) sh 0 refl (a .1) in
-      let y : _≡_ {A = Shape} (record { height = h; distance = d }) sh = same-shape _ _ (b .1) in
-      rw (← y) (both (heightOk h) (distanceOk d) (a .0) (b .0))
+      let c = took (modelOk m) _ (refused 31) sh 0 refl (b .1) in
+      record { height = a .0; distance = b .0; same = same-shape _ _ (c .1) }
+
+  pub shape-ranged : (sh : Shape) → r ≡ shaped.Shape sh → inRange (sh .height) (sh .distance) ≡ true
+  shape-ranged sh z = let f = made-of sh z in rw (← f .same) (both (heightOk h) (distanceOk d) (f .height) (f .distance))
+
+  pub fresh-done : (sh : Shape) (v : Window) → r ≡ shaped.Shape sh → v ≡ freshWindow (ofModel (sh .model)) sh → given (done tt 0) v ≡ leaves (freshCall (ofModel m) h d m) itself noWindow
+  unfolding freshCall freshAs
+  fresh-done sh v z y =
+      let k : sh .model ≡ m = ap (λ (x : Shape). x .model) (sym (made-of sh z .same)) in
+      ap (λ (x : Window). given (done tt 0) x) (y ∙ ap (λ (n : ℕ). freshWindow (ofModel n) sh) k) ∙ sym (ap (freshAs (ofModel m)) (sym made ∙ ap shapeAnswer z))
 
 -- the loop that numbers its nodes
 abbrev pub numbering : Shape → ℕ → Node
@@ -74,11 +85,11 @@ opened sh s nodes =
       measured = replicate maxDetectors false;
     }
 
-pub none-by : (x : Node) → x ≡ unused → opened (record { height = 0; distance = 0 }) 0 (replicate maxNodes x) ≡ noWindow
+pub none-by : (x : Node) → x ≡ unused → opened (record { height = 0; distance = 0; model = 0 }) 0 (replicate maxNodes x) ≡ noWindow
 unfolding noWindow
-none-by x e = ap (λ (n : Node). opened (record { height = 0; distance = 0 }) 0 (replicate maxNodes n)) e
+none-by x e = ap (λ (n : Node). opened (record { height = 0; distance = 0; model = 0 }) 0 (replicate maxNodes n)) e
 
 pub fresh-by : (sh : Shape) (g s : ℕ) (nodes : List Node) → g ≡ nodesOf (sh .height) (sh .distance) → s ≡ sheetsOf (sh .distance) → nodes ≡ over g (numbering sh) (replicate maxNodes unused)
-    → opened sh s nodes ≡ freshWindow base sh
+    → opened sh s nodes ≡ freshWindow (ofModel (sh .model)) sh
 unfolding freshWindow
-fresh-by sh g s nodes e f z = rw (z, e, f, slots-base)
+fresh-by sh g s nodes e f z = rw (z, e, f, slots-model (sh .model))

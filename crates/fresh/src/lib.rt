@@ -13,7 +13,7 @@ ghost use mathlib.Core.Path.{_≡_};
 ghost use mathlib.Core.Bool.{true};
 ghost use Rattle.refusal.specs.Answer.{itself};
 ghost use Rattle.shape.specs.Sizes.{inRange};
-ghost use Rattle.steps.specs.Steps.{base};
+ghost use Rattle.steps.specs.Models.{ofModel};
 ghost use Rattle.window.specs.Fresh.{freshWindow, noWindow};
 ghost use Rattle.window.specs.Calls.{callAnswer, given, leaves, freshCall};
 
@@ -25,6 +25,7 @@ fn no_window() -> Window
         shape: Shape {
             height: 0,
             distance: 0,
+            model: 0,
         },
         stage: Stage::Rest,
         next: 0,
@@ -37,7 +38,7 @@ fn no_window() -> Window
 
 fn fresh_window(shape: Shape) -> Window
     requires { ⌜ inRange (shape .height) (shape .distance) ≡ true ⌝ }
-    ensures { λ r. ⌜ r ≡ freshWindow base shape ⌝ }
+    ensures { λ r. ⌜ r ≡ freshWindow (ofModel (shape .model)) shape ⌝ }
 {
     let n = extent::nodes(shape);
     let mut nodes = [window::alone(0, false); MAX_NODES];
@@ -63,11 +64,11 @@ fn fresh_window(shape: Shape) -> Window
     }
 }
 
-// The fresh window of a height and a distance.
-pub fn fresh(height: u32, distance: u32) -> Given
-    ensures { λ r. ⌜ given (callAnswer (r .answer)) (r .window) ≡ leaves (freshCall base height distance) itself noWindow ⌝ }
+// The fresh window of a height, a distance and a noise model.
+pub fn fresh(height: u32, distance: u32, model: u32) -> Given
+    ensures { λ r. ⌜ given (callAnswer (r .answer)) (r .window) ≡ leaves (freshCall (ofModel model) height distance model) itself noWindow ⌝ }
 {
-    let shaped = extent::shape_of(height, distance);
+    let shaped = extent::shape_of(height, distance, model);
     match shaped {
         Shaped::Refused(f) => Given {
             answer: Called::Refused(f),

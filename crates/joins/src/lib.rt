@@ -4,7 +4,8 @@ use shape::Shape;
 use steps::Shift;
 use steps::Step;
 ghost use mathlib.Core.Path.{_≡_};
-ghost use Rattle.steps.specs.Steps.{base, step as stepIn, goes as goesTo, fits as fitsIn, still as stillIn, alongRow, oneApart, beside as besideIn, insideOf, bothDetectors, joined as joinedBy};
+ghost use Rattle.steps.specs.Models.{ofModel};
+ghost use Rattle.steps.specs.Steps.{step as stepIn, goes as goesTo, fits as fitsIn, still as stillIn, alongRow, oneApart, beside as besideIn, insideOf, bothDetectors, joined as joinedBy};
 
 fn goes(shift: Shift, a: u8) -> usize
     ensures { λ r. ⌜ r ≡ goesTo shift a ⌝ }
@@ -86,8 +87,8 @@ fn joined_by(shape: Shape, sheets: usize, step: Step, place: Place) -> bool
 
 // There is an edge from the place in the direction of the pointer.
 pub fn joined(shape: Shape, sheets: usize, pointer: u8, place: Place) -> bool
-    ensures { λ r. ⌜ r ≡ joinedBy (shape .height) (shape .distance) sheets (stepIn base pointer) place ⌝ }
+    ensures { λ r. ⌜ r ≡ joinedBy (shape .height) (shape .distance) sheets (stepIn (ofModel (shape .model)) pointer) place ⌝ }
 {
-    let step = steps::step_of(pointer);
+    let step = steps::step_of(shape.model, pointer);
     joined_by(shape, sheets, step, place)
 }

@@ -262,4 +262,4 @@ pub record Law (T : Table) (fresh : Window) (p : Played) : Type 0 where
 
 -- of every fresh window, whatever list of calls it is given
 abbrev pub Demand3 : Table → Type 0
-Demand3 T = (height distance : ℕ) (w : Window) (n : ℕ) → freshCall T height distance ≡ done w n → (calls : List Call) → Law T w (play T (start w) calls)
+Demand3 T = (height distance model : ℕ) (w : Window) (n : ℕ) → freshCall T height distance model ≡ done w n → (calls : List Call) → Law T w (play T (start w) calls)

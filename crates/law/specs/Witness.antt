@@ -67,7 +67,7 @@ empties zero = []
 empties (suc n) = takes 0 ∷ law.run 65536 ∷ empties n
 
 abbrev pub none : Window
-none = fresh.freshWindow base (record { height = 1; distance = 2 })
+none = fresh.freshWindow base (record { height = 1; distance = 2; model = 0 })
 
 -- the round with the defect, then so many empty ones
 unfoldable pub tie : ℕ → Played

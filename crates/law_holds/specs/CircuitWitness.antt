@@ -26,7 +26,7 @@ layer last = 0 ∷ 0 ∷ 0 ∷ 0 ∷ 0 ∷ last ∷ []
 abbrev none : List ℕ
 none = 0 ∷ 0 ∷ []
 
-pub diagonal : session circuit (freshWindow circuit (record { height = 1; distance = 3 })) ((1 ∷ 0 ∷ []) ∷ (0 ∷ 1 ∷ []) ∷ none ∷ none ∷ [])
+pub diagonal : session circuit (freshWindow circuit (record { height = 1; distance = 3; model = 1 })) ((1 ∷ 0 ∷ []) ∷ (0 ∷ 1 ∷ []) ∷ none ∷ none ∷ [])
     ≡ (layer 0, none, 2) ∷ (layer 0, none, 2) ∷ (layer 0, none, 5) ∷ (layer 1, none, 2) ∷ []
 unfolding opened models.circuit session
 diagonal = refl

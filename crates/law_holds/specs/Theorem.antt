@@ -1,10 +1,10 @@
 -- DEMAND 3 HOLDS: the law after every list of calls. Assumes nothing.
-use Prim.Native.Nat.{_+_}
+use Prim.Native.Nat.{ℕ, _+_}
 use native.Mathlib.Omega.{arith}
 use mathlib.Core.Path.{_≡_, refl, sym, subst}
 use mathlib.Core.List.{List}
 use mathlib.Core.Bool.{true}
-use Rattle.shape.specs.Sizes.{inRange}
+use Rattle.shape.specs.Sizes.{inRange, modelOk}
 use Rattle.steps.specs.Steps.{Table, base}
 use Rattle.shape.specs.declared.Shape.{Shape}
 use Rattle.window.specs.Fresh.{freshWindow}
@@ -17,7 +17,7 @@ use Rattle.window.specs.declared.Window.{Window}
 use Rattle.steps.specs.Moves.{Move, Steps, tableOf}
 use Rattle.steps.specs.Suited.{Suited}
 use Rattle.steps.specs.Suits.{suited}
-use Rattle.steps.specs.Models.{phenomenological, circuitLevel, circuit, steps-0, steps-1, base-is, circuit-is}
+use Rattle.steps.specs.Models.{phenomenological, circuitLevel, circuit, steps-0, steps-1, base-is, circuit-is, ofModel, of-both}
 use Rattle.closure.specs.Done.{started}
 use Rattle.closure.specs.Facts.{facts}
 use Rattle.closure.specs.Closure.{kept-fresh}
@@ -69,11 +69,11 @@ unfolding rounded grown merged measuring
 sheet-kept T = record { round = λ p defects k st bits i. i; replace = λ p bytes i. refl; grow = λ p k st i. i; merging = λ p k st i. i }
 
 module _ (T : Table) (S : Suited T) where
-  pub law : (sh : Shape) → inRange (sh .height) (sh .distance) ≡ true → (calls : List Call) → Law T (freshWindow T sh) (play T (start (freshWindow T sh)) calls)
+  pub law : (sh : Shape) → inRange (sh .height) (sh .distance) ≡ true → modelOk (sh .model) ≡ true → (calls : List Call) → Law T (freshWindow T sh) (play T (start (freshWindow T sh)) calls)
   unfolding freshWindow
-  law sh e calls =
+  law sh e m calls =
       let p = start (freshWindow T sh) in
-      let k = kept-fresh T sh e in
+      let k = kept-fresh T sh e m in
       let a = playing T S (Conserved T) (conserved T S) calls p k (conserved-fresh T sh e) in
       let b = playing T S (Clustered T) (clustered T S) calls p k (clustered-fresh T sh) in
       let c = playing T S (Counted sh) (counted T S sh) calls p k (counted-fresh T sh) in
@@ -88,17 +88,20 @@ module _ (T : Table) (S : Suited T) where
       }
 
   pub holds : Demand3 T
-  holds h d w n e calls =
-      let x = started T h d w n e in
-      subst (λ (u : Window). Law T u (play T (start u) calls)) (x .value) (law (record { height = h; distance = d }) (x .ranged) calls)
+  holds h d m w n e calls =
+      let x = started T h d m w n e in
+      subst (λ (u : Window). Law T u (play T (start u) calls)) (x .value) (law (record { height = h; distance = d; model = m }) (x .ranged) (x .modelled) calls)
 
 -- every table of distinct non-zero steps, at most one sheet up or down, in which each has its opposite
 pub demand3 : (ms : List Move) → Steps ms → Demand3 (tableOf ms)
 demand3 ms M = holds (tableOf ms) (suited ms M)
 
--- both models, by their written-out tables
+-- both models, by their written-out tables; and so every window's, by its model
 pub demand3-0 : Demand3 base
 demand3-0 = subst Demand3 base-is (demand3 phenomenological steps-0)
 
 pub demand3-1 : Demand3 circuit
 demand3-1 = subst Demand3 circuit-is (demand3 circuitLevel steps-1)
+
+pub demand3-model : (m : ℕ) → Demand3 (ofModel m)
+demand3-model m = of-both Demand3 m demand3-1 demand3-0

@@ -3,11 +3,13 @@
 use Prim.Native.Nat.{ℕ, zero, suc, _+_, _-_, _*_, _≤_, _<_}
 use native.Mathlib.Omega.{arith}
 use mathlib.Core.Path.{_≡_, refl, sym, _∙_, ap}
+use lib.Dec.{eqb}
+use Rattle.shape.specs.Choice.{if-true, if-false, whether}
 use Rattle.shape.specs.Ranges.{both}
-use Rattle.shape.specs.Sizes.{layerEdgesOf}
-use Rattle.steps.specs.Steps.{base, naming}
+use Rattle.shape.specs.Sizes.{plainEdges, diagonalEdges, layerEdgesOf}
+use Rattle.steps.specs.Steps.{Table, base, naming}
 use Rattle.steps.specs.Ranks.{rank}
-use Rattle.steps.specs.Models.{circuit, suited-base, suited-circuit}
+use Rattle.steps.specs.Models.{circuit, ofModel, of-circuit, of-base, suited-base, suited-circuit}
 use Rattle.layers.specs.Layer.{edgeNumber0, edgeOf0}
 use Rattle.layers.specs.LawsLayer.{Has0, along, between, above, number-has0, number-edge0}
 use Rattle.layers.specs.Layers.{spans, edgeNumber, edgeOf, layerEdges, Has, edge-number}
@@ -30,7 +32,7 @@ module _ (h d : ℕ) where
   col-t = omega arith
 
   -- there are as many as document 01 says
-  pub count-0 : layerEdges base h d ≡ layerEdgesOf h d
+  pub count-0 : layerEdges base h d ≡ plainEdges h d
   unfolding base naming areas
   count-0 = count-closed base suited-base h d ∙ rw (row-0, row-1, col-e, col-t) (omega arith)
 
@@ -62,7 +64,7 @@ module _ (h d : ℕ) (d2 : 2 ≤ d) where
   has-0 _ (above r c a b m) =
       record { kind = omega arith; there = spans-box h d (named base 2) refl r c ∙ both _ _ (within-by _ _ r (omega arith) (omega arith)) (within-by _ _ c (omega arith) (omega arith)) }
 
-  pub edge-0 : (i : ℕ) → i < layerEdgesOf h d → edgeOf base h d i ≡ edgeOf0 h d i
+  pub edge-0 : (i : ℕ) → i < plainEdges h d → edgeOf base h d i ≡ edgeOf0 h d i
   edge-0 i l =
       let e = edgeOf0 h d i in
       let H = has-0 e (number-has0 h d d2 i l) in
@@ -72,15 +74,15 @@ module _ (h d : ℕ) (d2 : 2 ≤ d) where
 
 module _ (h d : ℕ) where
   abbrev pub edges1 : ℕ
-  edges1 = layerEdgesOf h d + (h - 1) * (d - 1) + h * (d - 2) + (h - 1) * (d - 2)
+  edges1 = plainEdges h d + diagonalEdges h d
 
   abbrev pub edgeNumber1 : ℕ → ℕ → ℕ → ℕ
   edgeNumber1 zero r c = r * d + c
   edgeNumber1 (suc zero) r c = h * d + r * (d - 1) + (c - 1)
   edgeNumber1 (suc (suc zero)) r c = h * d + (h - 1) * (d - 1) + r * (d - 1) + (c - 1)
-  edgeNumber1 (suc (suc (suc zero))) r c = layerEdgesOf h d + (r - 1) * (d - 1) + (c - 1)
-  edgeNumber1 (suc (suc (suc (suc zero)))) r c = layerEdgesOf h d + (h - 1) * (d - 1) + r * (d - 2) + (c - 1)
-  edgeNumber1 (suc (suc (suc (suc (suc k))))) r c = layerEdgesOf h d + (h - 1) * (d - 1) + h * (d - 2) + r * (d - 2) + (c - 1)
+  edgeNumber1 (suc (suc (suc zero))) r c = plainEdges h d + (r - 1) * (d - 1) + (c - 1)
+  edgeNumber1 (suc (suc (suc (suc zero)))) r c = plainEdges h d + (h - 1) * (d - 1) + r * (d - 2) + (c - 1)
+  edgeNumber1 (suc (suc (suc (suc (suc k))))) r c = plainEdges h d + (h - 1) * (d - 1) + h * (d - 2) + r * (d - 2) + (c - 1)
 
   row-n : h - 0 - 1 ≡ h - 1
   row-n = omega arith
@@ -107,6 +109,13 @@ module _ (h d : ℕ) where
   pub number-1 : (e : Edge) → Has circuit h d e → edgeNumber circuit h d e ≡ edgeNumber1 (e .kind) (e .row) (e .column)
   unfolding circuit
   number-1 e H = number-closed circuit suited-circuit h d e H ∙ closed-1 (e .kind) (e .row) (e .column) (H .kind)
+
+-- THE COUNT, by the model
+pub count-model : (m h d : ℕ) → layerEdges (ofModel m) h d ≡ layerEdgesOf m h d
+count-model m h d =
+    whether (eqb m 1)
+    (λ e. ap (λ (T : Table). layerEdges T h d) (of-circuit m e) ∙ count-1 h d ∙ sym (if-true _ _ _ e))
+    (λ e. ap (λ (T : Table). layerEdges T h d) (of-base m e) ∙ count-0 h d ∙ sym (if-false _ _ _ e))
 
 -- A 3 BY 3 LAYER: 19 edges in model 0, 28 in model 1; 15 by 15: 631 and 1,204
 pub printed : (layerEdges base 3 3 ≡ 19) × (layerEdges circuit 3 3 ≡ 28) × (layerEdges base 15 15 ≡ 631) × (layerEdges circuit 15 15 ≡ 1204)

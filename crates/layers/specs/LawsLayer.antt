@@ -5,7 +5,7 @@ use native.Mathlib.Omega.{arith}
 use mathlib.Core.Path.{_≡_}
 use mathlib.Core.Logic.{⊎-elim}
 use Rattle.shape.specs.Choice.{order}
-use Rattle.shape.specs.Sizes.{layerEdgesOf}
+use Rattle.shape.specs.Sizes.{plainEdges}
 use Rattle.layers.specs.Layer.{edgeNumber0, edgeOn, edgeOf0, rowEdges, sheetEdges}
 use Rattle.layers.specs.Cases.{edge-row, edge-column, edge-time}
 use Rattle.layers.specs.declared.Edge.{Edge}
@@ -35,7 +35,7 @@ module _ (h d : ℕ) (d2 : 2 ≤ d) where
       let d0 : 0 < d - 1 = omega arith in
       above (n / (d - 1)) (n % (d - 1) + 1) (div-lt-iff-lt-mul d0 .1 l) (omega arith) (omega (arith, mod-lt n d0))
 
-  pub number-has0 : (n : ℕ) → n < layerEdgesOf h d → Has0 h d (edgeOf0 h d n)
+  pub number-has0 : (n : ℕ) → n < plainEdges h d → Has0 h d (edgeOf0 h d n)
   number-has0 n l =
       ⊎-elim (λ a. rw (edge-row h d n a) (has-row n a))
       (λ a. ⊎-elim (λ b. rw (edge-column h d n a b) (has-column (n - rowEdges h d) (omega arith)))
@@ -43,7 +43,7 @@ module _ (h d : ℕ) (d2 : 2 ≤ d) where
       (order n (sheetEdges h d)))
       (order n (rowEdges h d))
 
-  pub number-edge0 : (n : ℕ) → n < layerEdgesOf h d → edgeNumber0 h d (edgeOf0 h d n) ≡ n
+  pub number-edge0 : (n : ℕ) → n < plainEdges h d → edgeNumber0 h d (edgeOf0 h d n) ≡ n
   unfolding edgeNumber0
   number-edge0 n l = ⊎-elim row (λ a. ⊎-elim (column a) time (order n (sheetEdges h d))) (order n (rowEdges h d))
     where

@@ -6,8 +6,8 @@ use mathlib.Core.List.{List}
 use Rattle.shape.specs.Choice.{if}
 use Rattle.shape.specs.Sizes.{nodesOf}
 use Rattle.shape.specs.declared.Shape.{Shape}
-use Rattle.steps.specs.Steps.{base}
-use Rattle.steps.specs.Models.{suited-base}
+use Rattle.steps.specs.Steps.{Table}
+use Rattle.steps.specs.Models.{ofModel, suited-model}
 use Rattle.window.specs.Lists.{every}
 use Rattle.window.specs.Window.{isRest, isToGrow, isMerging, size, sheet}
 use Rattle.window.specs.Grow.{grown}
@@ -40,34 +40,34 @@ use Rattle.machine.specs.Due.{Due}
 use Rattle.machine.proofs.Packed.{shown}
 use Rattle.machine.proofs.Stages.{is-merging, stage-after}
 
-same-window : {sh sh' : Shape} {s s' : Stage} {n n' : ℕ} {m m' : List Bool} → sh ≡ sh' → s ≡ s' → n ≡ n' → m ≡ m' → (st : State) → windowOf base sh s n m st ≡ windowOf base sh' s' n' m' st
-same-window a b c d st = rw (a, b, c, d)
+same-window : (T : Table) {sh sh' : Shape} {s s' : Stage} {n n' : ℕ} {m m' : List Bool} → sh ≡ sh' → s ≡ s' → n ≡ n' → m ≡ m' → (st : State) → windowOf T sh s n m st ≡ windowOf T sh' s' n' m' st
+same-window T a b c d st = rw (a, b, c, d)
 
 -- the window whose steps a run makes
 pub record Begun (w : Window) (rides : Bool) (st : State) : Type 0 where
   pub window : Window
-  pub runs : (budget : ℕ) → ran base budget w ≡ stepsFrom base budget 0 window
+  pub runs : (budget : ℕ) → ran (ofModel (w .shape .model)) budget w ≡ stepsFrom (ofModel (w .shape .model)) budget 0 window
   pub shape : window .shape ≡ w .shape
   pub next : window .next ≡ w .next
   pub measured : window .measured ≡ w .measured
-  pub kept : Kept base window
+  pub kept : Kept (ofModel (w .shape .model)) window
   pub merging : isMerging (window .stage) ≡ true
-  pub shows : Shows base window st
-  pub riding : rides ≡ true → Riding base window
+  pub shows : Shows (ofModel (w .shape .model)) window st
+  pub riding : rides ≡ true → Riding (ofModel (w .shape .model)) window
 
-module _ (w : Window) (z : Sizes) (e : z ≡ sizesOf base (w .shape .height) (w .shape .distance)) (table : List ℕ) (F : Filled base (w .shape .height) (w .shape .distance) table)
-    (k : Kept base w) where
+module _ (w : Window) (z : Sizes) (e : z ≡ sizesOf (ofModel (w .shape .model)) (w .shape .height) (w .shape .distance)) (table : List ℕ) (F : Filled (ofModel (w .shape .model)) (w .shape .height) (w .shape .distance) table)
+    (k : Kept (ofModel (w .shape .model)) w) where
   abbrev z₀ : Sizes
-  z₀ = sizesOf base (w .shape .height) (w .shape .distance)
+  z₀ = sizesOf (ofModel (w .shape .model)) (w .shape .height) (w .shape .distance)
 
-  module _ (nodes marks edges : List ℕ) (U : Unpacked base w nodes marks edges) where
+  module _ (nodes marks edges : List ℕ) (U : Unpacked (ofModel (w .shape .model)) w nodes marks edges) where
     abbrev st : State
     st = stateOf nodes marks edges
 
     abbrev P₀ : Plan
     P₀ = planOf z₀ table
 
-    H : Shows base w st
+    H : Shows (ofModel (w .shape .model)) w st
     H = shown w z e table F k nodes marks edges U
 
     module _ (rides : Bool) (st' : State) where
@@ -75,29 +75,29 @@ module _ (w : Window) (z : Sizes) (e : z ≡ sizesOf base (w .shape .height) (w 
       unfolding grown
       grown-begun t r A =
           record {
-            window = grown base w;
-            runs = λ budget. ran-grown base budget w t;
+            window = grown (ofModel (w .shape .model)) w;
+            runs = λ budget. ran-grown (ofModel (w .shape .model)) budget w t;
             shape = refl;
             next = refl;
             measured = refl;
-            kept = kept-grow base suited-base w k;
+            kept = kept-grow (ofModel (w .shape .model)) (suited-model (w .shape .model)) w k;
             merging = refl;
-            shows = grown-shows base suited-base w k P₀ (F .planned) st H st' A;
-            riding = λ u. riding-grown base suited-base w k (aloft-by base suited-base w k P₀ (F .planned) st H (sym r ∙ u));
+            shows = grown-shows (ofModel (w .shape .model)) (suited-model (w .shape .model)) w k P₀ (F .planned) st H st' A;
+            riding = λ u. riding-grown (ofModel (w .shape .model)) (suited-model (w .shape .model)) w k (aloft-by (ofModel (w .shape .model)) (suited-model (w .shape .model)) w k P₀ (F .planned) st H (sym r ∙ u));
           }
 
       merging-begun : isRest (w .stage) ≡ false → isToGrow (w .stage) ≡ false → rides ≡ every (size w) (λ g. ridesIn z₀ false nodes edges table (entry g)) → st' ≡ st → Begun w rides st'
       merging-begun m t r same =
           record {
             window = w;
-            runs = λ budget. ran-merging base budget w t;
+            runs = λ budget. ran-merging (ofModel (w .shape .model)) budget w t;
             shape = refl;
             next = refl;
             measured = refl;
             kept = k;
             merging = is-merging (w .stage) m t;
-            shows = subst (λ (s : State). Shows base w s) (sym same) H;
-            riding = λ u. riding-by base suited-base w k P₀ (F .planned) st H (sym r ∙ u);
+            shows = subst (λ (s : State). Shows (ofModel (w .shape .model)) w s) (sym same) H;
+            riding = λ u. riding-by (ofModel (w .shape .model)) (suited-model (w .shape .model)) w k P₀ (F .planned) st H (sym r ∙ u);
           }
 
       pub begun : (due : Bool) → due ≡ isToGrow (w .stage) → isRest (w .stage) ≡ false → rides ≡ every (z .nodes) (λ g. ridesIn z due nodes edges table (entry g))
@@ -126,36 +126,36 @@ module _ (w : Window) (z : Sizes) (e : z ≡ sizesOf base (w .shape .height) (w 
     all-named : (g : ℕ) → g < size (B .window) → named list count (entry g) ≡ true
     all-named g l = E .names g (subst (λ (n : ℕ). g < n) same-size l) refl
 
-    planned : Planned base (B .window .shape .height) (B .window .shape .distance) (planOf z table)
+    planned : Planned (ofModel (w .shape .model)) (B .window .shape .height) (B .window .shape .distance) (planOf z table)
     planned =
-        subst (λ (sh : Shape). Planned base (sh .height) (sh .distance) (planOf z table)) (sym (B .shape))
-        (subst (λ (s : Sizes). Planned base (w .shape .height) (w .shape .distance) (planOf s table)) (sym e) (F .planned))
+        subst (λ (sh : Shape). Planned (ofModel (w .shape .model)) (sh .height) (sh .distance) (planOf z table)) (sym (B .shape))
+        (subst (λ (s : Sizes). Planned (ofModel (w .shape .model)) (w .shape .height) (w .shape .distance) (planOf s table)) (sym e) (F .planned))
 
-    going : Going base (planOf z table) (B .window) st rides count list
+    going : Going (ofModel (w .shape .model)) (planOf z table) (B .window) st rides count list
     going =
-        going-all base (B .window) count list all-named (planOf z table) st rides (B .kept) (B .merging) planned (B .shows)
+        going-all (ofModel (w .shape .model)) (B .window) count list all-named (planOf z table) st rides (B .kept) (B .merging) planned (B .shows)
         (subst (λ (n : ℕ). Places n count list) (sym same-size) (E .listing .places)) (B .riding)
 
     pub some-shown : Shown (planOf z table) (z .nodes) st rides count (listAt lists 0)
-    some-shown = (B .window, same-size, going)
+    some-shown = (ofModel (w .shape .model), suited-model (w .shape .model), B .window, same-size, going)
 
     -- THE END IS PACKED
     module _ (budget : ℕ) (rest : Bool) (made : ℕ) (st' : State) (ended : Ended (planOf z table) (z .nodes) budget st rides count (listAt lists 0) rest made st') where
-      over : Over base (planOf z table) budget (stepsFrom base budget 0 (B .window)) rides (λ g. named list count (entry g)) (B .window) rest made st'
-      over = ended (B .window) same-size going (λ g. named list count (entry g)) (λ t. live-all base (B .window) count list all-named)
+      over : Over (ofModel (w .shape .model)) (planOf z table) budget (stepsFrom (ofModel (w .shape .model)) budget 0 (B .window)) rides (λ g. named list count (entry g)) (B .window) rest made st'
+      over = ended (ofModel (w .shape .model)) (suited-model (w .shape .model)) (B .window) same-size going (λ g. named list count (entry g)) (λ t. live-all (ofModel (w .shape .model)) (B .window) count list all-named)
 
       abbrev v : Window
       v = over .window
 
       stage-is : v .stage ≡ if rest Rest Merging
-      stage-is = subst (λ (r : Ran). r .window .stage ≡ if (r .rest) Rest Merging) (over .equals) (stage-after base budget 0 (B .window) (B .merging))
+      stage-is = subst (λ (r : Ran). r .window .stage ≡ if (r .rest) Rest Merging) (over .equals) (stage-after (ofModel (w .shape .model)) budget 0 (B .window) (B .merging))
 
-      packed-is : windowOf base (w .shape) (if rest Rest Merging) (w .next) (w .measured) st' ≡ v
+      packed-is : windowOf (ofModel (w .shape .model)) (w .shape) (if rest Rest Merging) (w .next) (w .measured) st' ≡ v
       packed-is =
-          same-window (sym (over .shape ∙ B .shape)) (sym stage-is) (sym (over .next ∙ B .next)) (sym (over .measured ∙ B .measured)) st' ∙ window-shown base v (over .kept) st' (over .shows)
+          same-window (ofModel (w .shape .model)) (sym (over .shape ∙ B .shape)) (sym stage-is) (sym (over .next ∙ B .next)) (sym (over .measured ∙ B .measured)) st' ∙ window-shown (ofModel (w .shape .model)) v (over .kept) st' (over .shows)
 
-      pub run-packed : (stage : Stage) → stage ≡ if rest Rest Merging → (r : Window) → r ≡ windowOf base (w .shape) stage (w .next) (w .measured) st'
-          → _≡_ {A = Ran} (record { window = r; rest = rest; count = made }) (ran base budget w)
+      pub run-packed : (stage : Stage) → stage ≡ if rest Rest Merging → (r : Window) → r ≡ windowOf (ofModel (w .shape .model)) (w .shape) stage (w .next) (w .measured) st'
+          → _≡_ {A = Ran} (record { window = r; rest = rest; count = made }) (ran (ofModel (w .shape .model)) budget w)
       run-packed stage s r p =
-          ap (λ (x : Window). record { window = x; rest = rest; count = made }) (p ∙ ap (λ (x : Stage). windowOf base (w .shape) x (w .next) (w .measured) st') s ∙ packed-is)
+          ap (λ (x : Window). record { window = x; rest = rest; count = made }) (p ∙ ap (λ (x : Stage). windowOf (ofModel (w .shape .model)) (w .shape) x (w .next) (w .measured) st') s ∙ packed-is)
           ∙ sym (B .runs budget ∙ over .equals)

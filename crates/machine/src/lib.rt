@@ -14,7 +14,7 @@ ghost use Prim.Native.Nat.{_<_};
 ghost use lib.ListN.{length};
 ghost use Rattle.shape.specs.Choice.{if};
 ghost use Rattle.shape.specs.Sizes.{detectorsOf, layerEdgesOf};
-ghost use Rattle.steps.specs.Steps.{base};
+ghost use Rattle.steps.specs.Models.{ofModel};
 ghost use Rattle.window.specs.Window.{isRest, maxNext};
 ghost use Rattle.window.specs.Formed.{wellFormed};
 ghost use Rattle.window.specs.Grow.{grown};
@@ -27,13 +27,13 @@ ghost use Rattle.machine.specs.Due.{Due};
 
 // A round received with these defects: what leaves goes to the buffers, and the window is one sheet lower, with a new top sheet.
 pub fn round(w: Window, bytes: &[u8], edges: &mut [u8], escapes: &mut [u8]) -> Window
-    requires { ⌜ wellFormed base w ≡ true ⌝ }
+    requires { ⌜ wellFormed (ofModel (w .shape .model)) w ≡ true ⌝ }
     requires { ⌜ isRest (w .stage) ≡ true ⌝ }
     requires { ⌜ w .next < maxNext ⌝ }
     requires { ⌜ length (now bytes) ≡ detectorsOf (w .shape .height) (w .shape .distance) ⌝ }
-    requires { ⌜ length (now edges) ≡ layerEdgesOf (w .shape .height) (w .shape .distance) ⌝ }
+    requires { ⌜ length (now edges) ≡ layerEdgesOf (w .shape .model) (w .shape .height) (w .shape .distance) ⌝ }
     requires { ⌜ length (now escapes) ≡ detectorsOf (w .shape .height) (w .shape .distance) ⌝ }
-    ensures { λ r. ⌜ asRound r (now (edges .exit)) (now (escapes .exit)) ≡ receiving base w (now (bytes .entry)) ⌝ }
+    ensures { λ r. ⌜ asRound r (now (edges .exit)) (now (escapes .exit)) ≡ receiving (ofModel (w .shape .model)) w (now (bytes .entry)) ⌝ }
 {
     let shape = w.shape;
     let measured = w.measured;
@@ -75,8 +75,8 @@ pub fn round(w: Window, bytes: &[u8], edges: &mut [u8], escapes: &mut [u8]) -> W
 
 // Every edge grows by its active ends.
 pub fn grow(w: Window) -> Window
-    requires { ⌜ wellFormed base w ≡ true ⌝ }
-    ensures { λ r. ⌜ r ≡ grown base w ⌝ }
+    requires { ⌜ wellFormed (ofModel (w .shape .model)) w ≡ true ⌝ }
+    ensures { λ r. ⌜ r ≡ grown (ofModel (w .shape .model)) w ⌝ }
 {
     let shape = w.shape;
     let measured = w.measured;
@@ -130,9 +130,9 @@ fn stage_after(rest: bool) -> Stage
 
 // Grow if due, then merging steps up to rest or through the budget. The first work list is of all nodes.
 pub fn run(w: Window, budget: u32) -> Ran
-    requires { ⌜ wellFormed base w ≡ true ⌝ }
+    requires { ⌜ wellFormed (ofModel (w .shape .model)) w ≡ true ⌝ }
     requires { ⌜ isRest (w .stage) ≡ false ⌝ }
-    ensures { λ r. ⌜ r ≡ ran base budget w ⌝ }
+    ensures { λ r. ⌜ r ≡ ran (ofModel (w .shape .model)) budget w ⌝ }
 {
     let shape = w.shape;
     let stage = w.stage;

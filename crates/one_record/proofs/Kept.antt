@@ -16,8 +16,7 @@ use Rattle.record.specs.declared.RoundRead.{RoundRead}
 use Rattle.record.specs.declared.RoundRead.the-variants as roundRead
 use Rattle.shape.specs.Sizes.{detectorsOf}
 use Rattle.shape.specs.declared.Shape.{Shape}
-use Rattle.steps.specs.Steps.{base}
-use Rattle.steps.specs.Models.{suited-base}
+use Rattle.steps.specs.Models.{ofModel, suited-model}
 use Rattle.window.specs.declared.Ran.{Ran}
 use Rattle.window.specs.declared.Window.{Window}
 use Rattle.decoding.specs.Decoding.{Line, finished, turnedBack, Turn, turnBy, turnOf, Recorded, recorded}
@@ -60,17 +59,17 @@ module _ (P : Plan) (sh : Shape) (next : ℕ) (nodes₀ marks₀ edges₀ : List
   found = nextRound s (detectorsOf (sh .height) (sh .distance)) next at (length old) from
 
   abbrev turnedBy : Window → List ℕ → ℕ → Answer Turn
-  turnedBy w bytes behind = done (turnOf base w bytes) behind
+  turnedBy w bytes behind = done (turnOf (ofModel (sh .model)) w bytes) behind
 
   -- by it, what the rule leaves
   abbrev leaves : Window → Answer Turn → RecordReturned
   leaves w a = recordedLeaves (recorded (length old - from) a) w old from
 
-  whole-is : (w : Window) → w .shape ≡ sh → w .next ≡ next → Held base P w st₀ rides before was → leaves w (andThen found (turnedBy w)) ≡ recordLeaves base s w at old from
+  whole-is : (w : Window) → w .shape ≡ sh → w .next ≡ next → Held (ofModel (sh .model)) P w st₀ rides before was → leaves w (andThen found (turnedBy w)) ≡ recordLeaves (ofModel (sh .model)) s w at old from
   whole-is w e f H =
       let q : nextRound s (detectorsOf (w .shape .height) (w .shape .distance)) (w .next) at (length old) from ≡ found = rw (e, f) in
       ap (λ (x : Answer (List ℕ)). leaves w (andThen x (turnedBy w))) (sym q)
-      ∙ ap (λ (x : Recorded). recordedLeaves x w old from) (record-next base suited-base s b w (H .kept .formed) (H .rest) at (length old) from)
+      ∙ ap (λ (x : Recorded). recordedLeaves x w old from) (record-next (ofModel (sh .model)) (suited-model (sh .model)) s b w (H .kept .formed) (H .rest) at (length old) from)
 
   -- IT STOPS BEFORE A ROUND: window and arrays stay
   module _ (nodes marks edges : List ℕ) (long : Long nodes marks edges) (few : before ≤ 4608) (lists : List ℕ) (queued : List Bool) (words : List ℕ) (scratch : Scratch lists queued words) where
@@ -106,25 +105,25 @@ module _ (P : Plan) (sh : Shape) (next : ℕ) (nodes₀ marks₀ edges₀ : List
     abbrev list : ℕ → ℕ
     list = liveAt lists
 
-    module _ (w : Window) (e : w .shape ≡ sh) (f : w .next ≡ next) (H : Held base P w st₀ rides before was) where
-      turns : Turned P w bytes rides rest made st count list
+    module _ (w : Window) (e : w .shape ≡ sh) (f : w .next ≡ next) (H : Held (ofModel (sh .model)) P w st₀ rides before was) where
+      turns : Turned (ofModel (sh .model)) P w bytes rides rest made st count list
       turns = L .turns w e f H
 
       abbrev run : Ran
       run = record { window = turns .window; rest = rest; count = made }
 
-      written : recordReturned answer (windowAfter answer w (turns .window)) new ≡ recordLeaves base s w at old from
+      written : recordReturned answer (windowAfter answer w (turns .window)) new ≡ recordLeaves (ofModel (sh .model)) s w at old from
       written =
           put .each w e marks₀ (H .shows) run refl refl
-          ∙ ap (λ (v : Ran). leaves w (done (turnBy base w v) behind)) (sym (turns .equals))
+          ∙ ap (λ (v : Ran). leaves w (done (turnBy (ofModel (sh .model)) w v) behind)) (sym (turns .equals))
           ∙ ap (λ (x : Answer (List ℕ)). leaves w (andThen x (turnedBy w))) (sym read)
           ∙ whole-is w e f H
 
       held-after : (i j : ℕ) → answer ≡ to i j
           → (windowAfter answer w (turns .window) .shape ≡ w .shape) × (windowAfter answer w (turns .window) .next ≡ next + 1) × (windowAfter answer w (turns .window) .measured ≡ w .measured)
-          × Held base P (windowAfter answer w (turns .window)) st rides count list
+          × Held (ofModel (sh .model)) P (windowAfter answer w (turns .window)) st rides count list
       held-after i j k =
-          subst (λ (v : Window). (v .shape ≡ w .shape) × (v .next ≡ next + 1) × (v .measured ≡ w .measured) × Held base P v st rides count list) (sym (ap (λ (x : RecordAnswer). windowAfter x w (turns .window)) k))
+          subst (λ (v : Window). (v .shape ≡ w .shape) × (v .next ≡ next + 1) × (v .measured ≡ w .measured) × Held (ofModel (sh .model)) P v st rides count list) (sym (ap (λ (x : RecordAnswer). windowAfter x w (turns .window)) k))
           (turns .shape, turns .next ∙ ap (λ (n : ℕ). n + 1) f, turns .measured, turns .held (put .rested i j k))
 
     pub on-read : RecordOn P sh next (stateOf nodes₀ marks₀ edges₀) rides before was s at old from answer new (next + 1) rides count nodes marks edges lists queued words

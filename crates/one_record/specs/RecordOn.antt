@@ -4,7 +4,8 @@ use mathlib.Core.Path.{_≡_}
 use mathlib.Core.Bool.{Bool}
 use mathlib.Core.List.{List}
 use Rattle.shape.specs.declared.Shape.{Shape}
-use Rattle.steps.specs.Steps.{base}
+use Rattle.steps.specs.Steps.{Table}
+use Rattle.steps.specs.Models.{ofModel}
 use Rattle.window.specs.declared.Window.{Window}
 use Rattle.decoding.specs.Answers.{RecordAnswer, to, RecordReturned, recordReturned, recordLeaves}
 use Rattle.flat.specs.Entries.{State, stateOf, Long}
@@ -14,10 +15,10 @@ use Rattle.shows.specs.Turn.{Held}
 use Rattle.turn.specs.Ready.{Scratch}
 
 -- the whole is answer, window and buffer by the rule; a window whose record was written is held in the other set
-pub record RecordedOn (P : Plan) (w : Window) (whole : RecordReturned) (answer : RecordAnswer) (new : List ℕ) (rides : Bool) (next count : ℕ) (st : State) (list : ℕ → ℕ) : Type 0 where
+pub record RecordedOn (T : Table) (P : Plan) (w : Window) (whole : RecordReturned) (answer : RecordAnswer) (new : List ℕ) (rides : Bool) (next count : ℕ) (st : State) (list : ℕ → ℕ) : Type 0 where
   pub window : Window
   pub leaves : recordReturned answer window new ≡ whole
-  pub held : (i j : ℕ) → answer ≡ to i j → (window .shape ≡ w .shape) × (window .next ≡ next) × (window .measured ≡ w .measured) × Held base P window st rides count list
+  pub held : (i j : ℕ) → answer ≡ to i j → (window .shape ≡ w .shape) × (window .next ≡ next) × (window .measured ≡ w .measured) × Held T P window st rides count list
 
 -- for every window that was held
 pub record RecordOn (P : Plan) (sh : Shape) (next : ℕ) (st : State) (rides : Bool) (count : ℕ) (list : ℕ → ℕ) (s : List ℕ) (at : ℕ) (old : List ℕ) (from : ℕ)
@@ -26,5 +27,5 @@ pub record RecordOn (P : Plan) (sh : Shape) (next : ℕ) (st : State) (rides : B
   pub few : count' ≤ 4608
   pub scratch : Scratch lists queued words
   pub same : rides' ≡ rides
-  pub each : (w : Window) → w .shape ≡ sh → w .next ≡ next → Held base P w st rides count list
-      → RecordedOn P w (recordLeaves base s w at old from) answer new rides next' count' (stateOf nodes marks edges) (liveAt lists)
+  pub each : (w : Window) → w .shape ≡ sh → w .next ≡ next → Held (ofModel (sh .model)) P w st rides count list
+      → RecordedOn (ofModel (sh .model)) P w (recordLeaves (ofModel (sh .model)) s w at old from) answer new rides next' count' (stateOf nodes marks edges) (liveAt lists)

@@ -13,11 +13,10 @@ use shape::Shape;
 use turn::Held;
 use turn::TurnGiven;
 ghost use mathlib.Core.Path.{_≡_};
-ghost use mathlib.Core.Bool.{true};
 ghost use Prim.Native.Nat.{_≤_};
 ghost use lib.ListN.{length};
-ghost use Rattle.shape.specs.Sizes.{inRange};
-ghost use Rattle.steps.specs.Steps.{base};
+ghost use Rattle.steps.specs.Models.{ofModel};
+ghost use Rattle.record.specs.Records.{IsShape};
 ghost use Rattle.decoding.specs.Answers.{recordAnswer};
 ghost use Rattle.flat.specs.Entries.{stateOf};
 ghost use Rattle.flat.specs.Plan.{planOf};
@@ -47,9 +46,9 @@ fn record_of(
     out: &mut [u8],
     to: usize,
 ) -> Record
-    requires { ⌜ inRange (shape .height) (shape .distance) ≡ true ⌝ }
-    requires { ⌜ z ≡ sizesOf base (shape .height) (shape .distance) ⌝ }
-    requires { ⌜ Filled base (shape .height) (shape .distance) (now table) ⌝ }
+    requires { ⌜ IsShape shape ⌝ }
+    requires { ⌜ z ≡ sizesOf (ofModel (shape .model)) (shape .height) (shape .distance) ⌝ }
+    requires { ⌜ Filled (ofModel (shape .model)) (shape .height) (shape .distance) (now table) ⌝ }
     requires { ⌜ to ≤ length (now out) ⌝ }
     ensures { λ r. ⌜ RecordOf shape (now («old_nodes» .entry)) (now («old_edges» .entry)) (ended .rest) (ended .count) behind (now (out .entry)) to (recordAnswer r) (now (out .exit)) ⌝ }
 {

@@ -1,6 +1,6 @@
 -- A WINDOW'S EDGES from the machine's, kind by kind. Assumes nothing.
 use Prim.Native.Nat.{ℕ, zero, suc, _+_, _*_, _≤_, _<_}
-use native.Mathlib.Nat.{mul-le-mul, mul-add, mul-one}
+use native.Mathlib.Nat.{mul-le-mul, mul-add, mul-one, mul-comm}
 use native.Mathlib.Omega.{arith}
 use mathlib.Core.Path.{_≡_, sym, _∙_, ap, ap₂}
 use mathlib.Core.Bool.{Bool, false}
@@ -8,7 +8,8 @@ use mathlib.Core.List.{List}
 use lib.ListN.{getD, length, replicate}
 use Rattle.shape.specs.Sizes.{nodesOf}
 use Rattle.shape.specs.declared.Shape.{Shape}
-use Rattle.steps.specs.Steps.{Table, base, slotKind, slotNode}
+use Rattle.steps.specs.Steps.{Table, slotKind, slotNode}
+use Rattle.steps.specs.Models.{ofModel}
 use Rattle.steps.specs.Slots.{slot-kind, slot-node}
 use Rattle.window.specs.Lists.{over}
 use Rattle.window.specs.Window.{unused}
@@ -19,6 +20,7 @@ use Rattle.window.specs.LawsLists.{over-none, over-next}
 use Rattle.flat.specs.Codes.{nodeOf, growthOf, correctionOf}
 use Rattle.flat.specs.Entries.{entry, cell, stateOf}
 use Rattle.flat.specs.Stored.{stored}
+use Rattle.window.specs.Fresh.{slotsOf, slots-model}
 use Rattle.shows.specs.Shows.{shown, windowOf}
 
 -- the rules by slot
@@ -79,13 +81,12 @@ module _ {ℓ} {A : Type ℓ} (v : ℕ → A) (n kind : ℕ) (l : List A) where
       none n = omega arith
 
 -- the slots of a kind fit
-pub slots-low : (n kind : ℕ) → n ≤ 3600 → kind < 3 → n * kind + n ≤ 10800
-slots-low n kind a b = let c : kind + 1 ≤ 3 = omega arith in let e = mul-add n kind 1 in let f = mul-one n in let g : n * (kind + 1) ≤ 10800 = mul-le-mul {n₂ = 3600} {m₂ = 3} a c in omega arith
+pub slots-low : (n kind : ℕ) → n ≤ 3600 → kind < 6 → n * kind + n ≤ 21600
+slots-low n kind a b = let c : kind + 1 ≤ 6 = omega arith in let e = mul-add n kind 1 in let f = mul-one n in let g : n * (kind + 1) ≤ 21600 = mul-le-mul {n₂ = 3600} {m₂ = 6} a c in omega arith
 
 -- all kinds
-pub kinds-are : (n kinds : ℕ) → kinds ≡ 3 → n * kinds ≡ base .kinds * n
-unfolding base
-kinds-are n kinds e = rw e (omega arith)
+pub kinds-are : (T : Table) (n kinds : ℕ) → kinds ≡ T .kinds → n * kinds ≡ T .kinds * n
+kinds-are T n kinds e = rw e (mul-comm n (T .kinds))
 
 -- THE WINDOW
 
@@ -97,11 +98,13 @@ window sh stage next measured nodes growth correction =
     record { shape = sh; stage = stage; next = next; nodes = nodes; growth = growth; correction = correction; measured = measured }
 
 pub packed : (sh : Shape) (stage : Stage) (next : ℕ) (measured : List Bool) (nodes marks edges : List ℕ) (n g : ℕ) (all : List Node) (growth : List ℕ) (bits : List Bool)
-    → n ≡ nodesOf (sh .height) (sh .distance) → g ≡ n → all ≡ over g (nodeRule nodes marks) (replicate 3600 unused) → growth ≡ growthsOn base n edges (replicate 10800 0) → bits ≡ bitsOn base n edges (replicate 10800 false)
-    → window sh stage next measured all growth bits ≡ windowOf base sh stage next measured (stateOf nodes marks edges)
-unfolding windowOf base
+    → n ≡ nodesOf (sh .height) (sh .distance) → g ≡ n → all ≡ over g (nodeRule nodes marks) (replicate 3600 unused) → growth ≡ growthsOn (ofModel (sh .model)) n edges (replicate 21600 0) → bits ≡ bitsOn (ofModel (sh .model)) n edges (replicate 21600 false)
+    → window sh stage next measured all growth bits ≡ windowOf (ofModel (sh .model)) sh stage next measured (stateOf nodes marks edges)
+unfolding windowOf
 packed sh stage next measured nodes marks edges n g all growth bits e f a b c =
     let m = nodesOf (sh .height) (sh .distance) in
+    let slots : 21600 ≡ slotsOf (ofModel (sh .model)) = sym (slots-model (sh .model)) in
     ap (λ (x : List Node). window sh stage next measured x growth bits) (a ∙ ap (λ (k : ℕ). over k (nodeRule nodes marks) (replicate 3600 unused)) (f ∙ e))
-    ∙ ap (λ (x : List ℕ). window sh stage next measured (over m (nodeRule nodes marks) (replicate 3600 unused)) x bits) (b ∙ ap (λ (k : ℕ). growthsOn base k edges (replicate 10800 0)) e)
-    ∙ ap (λ (x : List Bool). window sh stage next measured (over m (nodeRule nodes marks) (replicate 3600 unused)) (growthsOn base m edges (replicate 10800 0)) x) (c ∙ ap (λ (k : ℕ). bitsOn base k edges (replicate 10800 false)) e)
+    ∙ ap (λ (x : List ℕ). window sh stage next measured (over m (nodeRule nodes marks) (replicate 3600 unused)) x bits) (b ∙ ap (λ (k : ℕ). growthsOn (ofModel (sh .model)) k edges (replicate 21600 0)) e)
+    ∙ ap (λ (x : List Bool). window sh stage next measured (over m (nodeRule nodes marks) (replicate 3600 unused)) (growthsOn (ofModel (sh .model)) m edges (replicate 21600 0)) x) (c ∙ ap (λ (k : ℕ). bitsOn (ofModel (sh .model)) k edges (replicate 21600 false)) e)
+    ∙ ap (λ (k : ℕ). window sh stage next measured (over m (nodeRule nodes marks) (replicate 3600 unused)) (growthsOn (ofModel (sh .model)) m edges (replicate k 0)) (bitsOn (ofModel (sh .model)) m edges (replicate k false))) slots

@@ -14,7 +14,7 @@ use window::Window;
 ghost use mathlib.Core.Path.{_≡_};
 ghost use Prim.Native.Nat.{_+_, _*_, _≤_, _<_};
 ghost use lib.ListN.{length, getD};
-ghost use Rattle.steps.specs.Steps.{base};
+ghost use Rattle.steps.specs.Models.{ofModel};
 ghost use Rattle.flat.specs.Codes.{markOf, nodeOf, growthOf, correctionOf};
 ghost use Rattle.flat.specs.Entries.{stateOf};
 ghost use Rattle.flat.specs.Stored.{stored};
@@ -55,7 +55,7 @@ fn shown(v: u8) -> u8
 
 // A kind's growth, from the entry x on.
 fn growth_kind(x: usize, e: usize, n: usize, edges: &[u8; PLANES], growth: &mut [u8; MAX_SLOTS])
-    requires { ⌜ (x + n ≤ 27648) × (e + n ≤ 10800) ⌝ }
+    requires { ⌜ (x + n ≤ 27648) × (e + n ≤ 21600) ⌝ }
     ensures { λ _. ⌜ now (growth .exit) ≡ stored e (λ i. shownOf (growthOf (getD (now (edges .entry)) (x + i) 0))) n (now (growth .entry)) ⌝ }
 {
     let mut i: usize = 0;
@@ -65,11 +65,11 @@ fn growth_kind(x: usize, e: usize, n: usize, edges: &[u8; PLANES], growth: &mut 
     }
 }
 
-fn growth_kinds(n: usize, edges: &[u8; PLANES], growth: &mut [u8; MAX_SLOTS])
-    requires { ⌜ (n ≤ 3600) × (length (now growth) ≡ 10800) ⌝ }
-    ensures { λ _. ⌜ now (growth .exit) ≡ growthsOn base n (now (edges .entry)) (now (growth .entry)) ⌝ }
+fn growth_kinds(model: u8, n: usize, edges: &[u8; PLANES], growth: &mut [u8; MAX_SLOTS])
+    requires { ⌜ (n ≤ 3600) × (length (now growth) ≡ 21600) ⌝ }
+    ensures { λ _. ⌜ now (growth .exit) ≡ growthsOn (ofModel model) n (now (edges .entry)) (now (growth .entry)) ⌝ }
 {
-    let kinds = extent::wide(steps::KINDS);
+    let kinds = extent::wide(steps::kinds(model));
     let mut kind: usize = 0;
     while kind < kinds {
         growth_kind(kind * PLANE + MARGIN, n * kind, n, edges, growth);
@@ -79,7 +79,7 @@ fn growth_kinds(n: usize, edges: &[u8; PLANES], growth: &mut [u8; MAX_SLOTS])
 
 // A kind's correction bits.
 fn bits_kind(x: usize, e: usize, n: usize, edges: &[u8; PLANES], bits: &mut [bool; MAX_SLOTS])
-    requires { ⌜ (x + n ≤ 27648) × (e + n ≤ 10800) ⌝ }
+    requires { ⌜ (x + n ≤ 27648) × (e + n ≤ 21600) ⌝ }
     ensures { λ _. ⌜ now (bits .exit) ≡ stored e (λ i. correctionOf (getD (now (edges .entry)) (x + i) 0)) n (now (bits .entry)) ⌝ }
 {
     let mut i: usize = 0;
@@ -89,11 +89,11 @@ fn bits_kind(x: usize, e: usize, n: usize, edges: &[u8; PLANES], bits: &mut [boo
     }
 }
 
-fn bits_kinds(n: usize, edges: &[u8; PLANES], bits: &mut [bool; MAX_SLOTS])
-    requires { ⌜ (n ≤ 3600) × (length (now bits) ≡ 10800) ⌝ }
-    ensures { λ _. ⌜ now (bits .exit) ≡ bitsOn base n (now (edges .entry)) (now (bits .entry)) ⌝ }
+fn bits_kinds(model: u8, n: usize, edges: &[u8; PLANES], bits: &mut [bool; MAX_SLOTS])
+    requires { ⌜ (n ≤ 3600) × (length (now bits) ≡ 21600) ⌝ }
+    ensures { λ _. ⌜ now (bits .exit) ≡ bitsOn (ofModel model) n (now (edges .entry)) (now (bits .entry)) ⌝ }
 {
-    let kinds = extent::wide(steps::KINDS);
+    let kinds = extent::wide(steps::kinds(model));
     let mut kind: usize = 0;
     while kind < kinds {
         bits_kind(kind * PLANE + MARGIN, n * kind, n, edges, bits);
@@ -111,7 +111,7 @@ pub fn pack(
     marks: &[u16; PLANE],
     edges: &[u8; PLANES],
 ) -> Window
-    ensures { λ r. ⌜ r ≡ windowOf base shape stage next measured (stateOf (now (nodes .entry)) (now (marks .entry)) (now (edges .entry))) ⌝ }
+    ensures { λ r. ⌜ r ≡ windowOf (ofModel (shape .model)) shape stage next measured (stateOf (now (nodes .entry)) (now (marks .entry)) (now (edges .entry))) ⌝ }
 {
     let n = extent::nodes(shape);
     let mut all = [window::alone(0, false); MAX_NODES];
@@ -121,9 +121,9 @@ pub fn pack(
         g += 1;
     }
     let mut growth = [0; MAX_SLOTS];
-    growth_kinds(n, edges, &mut growth);
+    growth_kinds(shape.model, n, edges, &mut growth);
     let mut correction = [false; MAX_SLOTS];
-    bits_kinds(n, edges, &mut correction);
+    bits_kinds(shape.model, n, edges, &mut correction);
     Window {
         shape,
         stage,

@@ -14,6 +14,7 @@ use Rattle.shape.specs.Ranges.{Ranged, ranged, halves, sheets-le}
 use Rattle.shape.specs.Sizes.{inRange, sheetsOf}
 use Rattle.shape.specs.Nodes.{indexOf, boundaryNodes}
 use Rattle.steps.specs.Steps.{Table, base, step, namer, beside}
+use Rattle.steps.specs.Models.{circuit, ofModel, of-both, few-dirs, few-kinds}
 use Rattle.steps.specs.Suited.{naming-at}
 use Rattle.steps.specs.Offsets.{backBy, onBy}
 use Rattle.steps.specs.declared.Shift.{Shift}
@@ -89,13 +90,20 @@ pub record Roomy (T : Table) : Type 0 where
   pub kinds : T .kinds ≤ 6
   pub steps : (k : ℕ) → k < 32 → small (step T (k + 1)) ≡ true
 
-small-steps : every 32 (λ k. small (step base (k + 1))) ≡ true
-unfolding base every
-small-steps = refl
+small-steps : (every 32 (λ k. small (step base (k + 1))) ≡ true) × (every 32 (λ k. small (step circuit (k + 1))) ≡ true)
+unfolding base circuit every
+small-steps = (refl, refl)
 
-pub roomy-base : Roomy base
-unfolding base
-roomy-base = record { dirs = omega arith; kinds = omega arith; steps = λ k l. every-at (λ k. small (step base (k + 1))) 32 small-steps k l }
+pub roomy-model : (m : ℕ) → Roomy (ofModel m)
+roomy-model m =
+    record {
+      dirs = few-dirs m;
+      kinds = few-kinds m;
+      steps = λ k l.
+          of-both (λ (T : Table). small (step T (k + 1)) ≡ true) m
+          (every-at (λ k. small (step circuit (k + 1))) 32 (small-steps .1) k l)
+          (every-at (λ k. small (step base (k + 1))) 32 (small-steps .0) k l);
+    }
 
 module _ (T : Table) (room : Roomy T) (kind : ℕ) where
   pub namer-low : namer T kind ≤ 12

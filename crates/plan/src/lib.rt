@@ -15,11 +15,11 @@ use steps::Step;
 ghost use mathlib.Core.Path.{_≡_};
 ghost use mathlib.Core.Bool.{true, _&&_};
 ghost use Prim.Native.Nat.{_+_, _-_, _*_, _≤_, _<_};
-ghost use lib.ListN.{length, replicate};
+ghost use lib.ListN.{replicate};
 ghost use Rattle.shape.specs.Choice.{if};
 ghost use Rattle.shape.specs.Sizes.{inRange, sheetsOf};
 ghost use Rattle.shape.specs.Nodes.{boundaryNodes};
-ghost use Rattle.steps.specs.Steps.{base};
+ghost use Rattle.steps.specs.Models.{ofModel};
 ghost use Rattle.steps.specs.Ranks.{bit};
 ghost use Rattle.layers.specs.Boxes.{first as firstIn, end as endIn, rows, columns, within, named};
 ghost use Rattle.flat.specs.Stored.{stored};
@@ -35,27 +35,15 @@ pub struct Area {
     right: usize,
 }
 
-fn dirs() -> u8
-    ensures { λ r. ⌜ r ≡ length (base .steps) ⌝ }
-{
-    steps::DIRS
-}
-
-fn kinds() -> u8
-    ensures { λ r. ⌜ r ≡ base .kinds ⌝ }
-{
-    steps::KINDS
-}
-
 // The sizes of a shape.
 pub fn sizes(shape: Shape) -> Sizes
     requires { ⌜ inRange (shape .height) (shape .distance) ≡ true ⌝ }
-    ensures { λ r. ⌜ r ≡ sizesOf base (shape .height) (shape .distance) ⌝ }
+    ensures { λ r. ⌜ r ≡ sizesOf (ofModel (shape .model)) (shape .height) (shape .distance) ⌝ }
 {
     let h = extent::wide(shape.height);
     Sizes {
-        dirs: extent::wide(dirs()),
-        kinds: extent::wide(kinds()),
+        dirs: extent::wide(steps::dirs(shape.model)),
+        kinds: extent::wide(steps::kinds(shape.model)),
         nodes: extent::nodes(shape),
         sheet: extent::product(h, extent::wide(shape.distance) + 1),
         bound: extent::product(2 * h, extent::sheets(shape) + 1) as u16,
@@ -114,10 +102,10 @@ fn slot(shape: Shape, step: Step) -> u16
 }
 
 // The edges of the kind go up.
-fn rises(kind: u8) -> bool
-    ensures { λ r. ⌜ r ≡ risesBy (named base kind) ⌝ }
+fn rises(model: u8, kind: u8) -> bool
+    ensures { λ r. ⌜ r ≡ risesBy (named (ofModel model) kind) ⌝ }
 {
-    let step = steps::step_of(steps::namer(kind));
+    let step = steps::step_of(model, steps::namer(model, kind));
     let sheet = step.sheet;
     sheet.more < sheet.less
 }
@@ -135,11 +123,11 @@ fn flag(set: bool) -> u16
 fn head(shape: Shape, i: usize) -> u16
     requires { ⌜ inRange (shape .height) (shape .distance) ≡ true ⌝ }
     requires { ⌜ i < 192 ⌝ }
-    ensures { λ r. ⌜ r ≡ headOf base (shape .height) (shape .distance) i ⌝ }
+    ensures { λ r. ⌜ r ≡ headOf (ofModel (shape .model)) (shape .height) (shape .distance) i ⌝ }
 {
     let part = i / PART;
     let k = (i % PART) as u8;
-    let step = steps::step_of(k + 1);
+    let step = steps::step_of(shape.model, k + 1);
     if part == 0 {
         return off(shape, step);
     }
@@ -150,17 +138,17 @@ fn head(shape: Shape, i: usize) -> u16
         return step.back as u16;
     }
     if part == 3 {
-        return extent::less_one(steps::namer(k)) as u16;
+        return extent::less_one(steps::namer(shape.model, k)) as u16;
     }
     if part == 4 {
-        return flag(steps::falls(k));
+        return flag(steps::falls(shape.model, k));
     }
-    flag(rises(k))
+    flag(rises(shape.model, k))
 }
 
 fn heads(shape: Shape, table: &mut [u16; TABLE])
     requires { ⌜ inRange (shape .height) (shape .distance) ≡ true ⌝ }
-    ensures { λ _. ⌜ now (table .exit) ≡ stored 0 (headOf base (shape .height) (shape .distance)) 192 (now (table .entry)) ⌝ }
+    ensures { λ _. ⌜ now (table .exit) ≡ stored 0 (headOf (ofModel (shape .model)) (shape .height) (shape .distance)) 192 (now (table .entry)) ⌝ }
 {
     let mut i: usize = 0;
     while i < 192 {
@@ -243,9 +231,9 @@ fn end(shift: Shift, n: usize) -> usize
 }
 
 fn area_of(shape: Shape, kind: u8) -> Area
-    ensures { λ r. ⌜ r ≡ areaOf (shape .height) (shape .distance) (named base kind) ⌝ }
+    ensures { λ r. ⌜ r ≡ areaOf (shape .height) (shape .distance) (named (ofModel (shape .model)) kind) ⌝ }
 {
-    let step = steps::step_of(steps::namer(kind));
+    let step = steps::step_of(shape.model, steps::namer(shape.model, kind));
     let row = step.row;
     let column = step.column;
     let d = extent::wide(shape.distance);
@@ -291,7 +279,7 @@ fn fresh_row(x: usize, n: usize, there: bool, left: usize, right: usize, table: 
 fn fresh_kind(shape: Shape, kind: u8, table: &mut [u16; TABLE])
     requires { ⌜ inRange (shape .height) (shape .distance) ≡ true ⌝ }
     requires { ⌜ kind < 6 ⌝ }
-    ensures { λ _. ⌜ now (table .exit) ≡ freshOn base (shape .height) (shape .distance) kind (now (table .entry)) ⌝ }
+    ensures { λ _. ⌜ now (table .exit) ≡ freshOn (ofModel (shape .model)) (shape .height) (shape .distance) kind (now (table .entry)) ⌝ }
 {
     let area = area_of(shape, kind);
     let h = extent::wide(shape.height);
@@ -308,9 +296,9 @@ fn fresh_kind(shape: Shape, kind: u8, table: &mut [u16; TABLE])
 
 fn fresh_kinds(shape: Shape, table: &mut [u16; TABLE])
     requires { ⌜ inRange (shape .height) (shape .distance) ≡ true ⌝ }
-    ensures { λ _. ⌜ now (table .exit) ≡ passes (freshOn base (shape .height) (shape .distance)) (base .kinds) (now (table .entry)) ⌝ }
+    ensures { λ _. ⌜ now (table .exit) ≡ passes (freshOn (ofModel (shape .model)) (shape .height) (shape .distance)) ((ofModel (shape .model)) .kinds) (now (table .entry)) ⌝ }
 {
-    let kinds = kinds();
+    let kinds = steps::kinds(shape.model);
     let mut kind: u8 = 0;
     while kind < kinds {
         fresh_kind(shape, kind, table);
@@ -340,7 +328,7 @@ fn places_kind(
 ) -> usize
     requires { ⌜ inRange (shape .height) (shape .distance) ≡ true ⌝ }
     requires { ⌜ (kind < 6) × (bottom ≤ 3872) × (start ≤ 6144 + 240 * kind) ⌝ }
-    ensures { λ r. ⌜ (r ≡ start + rows (shape .height) (named base kind) * columns (shape .distance) (named base kind)) × (now (table .exit) ≡ blocks start (columns (shape .distance) (named base kind)) (placeRow (shape .distance) bottom (named base kind) kind) (columns (shape .distance) (named base kind)) (rows (shape .height) (named base kind)) (now (table .entry))) ⌝ }
+    ensures { λ r. ⌜ (r ≡ start + rows (shape .height) (named (ofModel (shape .model)) kind) * columns (shape .distance) (named (ofModel (shape .model)) kind)) × (now (table .exit) ≡ blocks start (columns (shape .distance) (named (ofModel (shape .model)) kind)) (placeRow (shape .distance) bottom (named (ofModel (shape .model)) kind) kind) (columns (shape .distance) (named (ofModel (shape .model)) kind)) (rows (shape .height) (named (ofModel (shape .model)) kind)) (now (table .entry))) ⌝ }
 {
     let area = area_of(shape, kind);
     let w = extent::wide(shape.distance) + 1;
@@ -361,9 +349,9 @@ fn places_kind(
 fn places(shape: Shape, bottom: usize, table: &mut [u16; TABLE])
     requires { ⌜ inRange (shape .height) (shape .distance) ≡ true ⌝ }
     requires { ⌜ bottom ≤ 3872 ⌝ }
-    ensures { λ _. ⌜ now (table .exit) ≡ passes (placesOn base (shape .height) (shape .distance) bottom) (base .kinds) (now (table .entry)) ⌝ }
+    ensures { λ _. ⌜ now (table .exit) ≡ passes (placesOn (ofModel (shape .model)) (shape .height) (shape .distance) bottom) ((ofModel (shape .model)) .kinds) (now (table .entry)) ⌝ }
 {
-    let kinds = kinds();
+    let kinds = steps::kinds(shape.model);
     let mut start = PLACES;
     let mut kind: u8 = 0;
     while kind < kinds {
@@ -376,7 +364,7 @@ fn places(shape: Shape, bottom: usize, table: &mut [u16; TABLE])
 pub fn fill(shape: Shape, table: &mut [u16; TABLE])
     requires { ⌜ inRange (shape .height) (shape .distance) ≡ true ⌝ }
     requires { ⌜ now table ≡ replicate 7680 0 ⌝ }
-    ensures { λ _. ⌜ Filled base (shape .height) (shape .distance) (now (table .exit)) ⌝ }
+    ensures { λ _. ⌜ Filled (ofModel (shape .model)) (shape .height) (shape .distance) (now (table .exit)) ⌝ }
 {
     let z = sizes(shape);
     heads(shape, table);

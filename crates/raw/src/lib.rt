@@ -6,7 +6,7 @@ ghost use mathlib.Core.Bool.{true};
 ghost use Prim.Native.Nat.{_<_, _≤_};
 ghost use lib.ListN.{length};
 ghost use Rattle.shape.specs.Sizes.{detectorsOf, layerEdgesOf, maxDetectors};
-ghost use Rattle.steps.specs.Steps.{base};
+ghost use Rattle.steps.specs.Models.{ofModel};
 ghost use Rattle.window.specs.Window.{isRest, maxNext};
 ghost use Rattle.window.specs.Formed.{wellFormed};
 ghost use Rattle.window.specs.Measured.{differences as differencesOf, asSheet};
@@ -41,13 +41,13 @@ fn sheet_of(bytes: &[u8]) -> [bool; MAX_DETECTORS]
 
 // The round is received with the places that differ from the last measured sheet; then the sheet is the bytes.
 pub fn raw(w: Window, bytes: &[u8], edges: &mut [u8], escapes: &mut [u8]) -> Window
-    requires { ⌜ wellFormed base w ≡ true ⌝ }
+    requires { ⌜ wellFormed (ofModel (w .shape .model)) w ≡ true ⌝ }
     requires { ⌜ isRest (w .stage) ≡ true ⌝ }
     requires { ⌜ w .next < maxNext ⌝ }
     requires { ⌜ length (now bytes) ≡ detectorsOf (w .shape .height) (w .shape .distance) ⌝ }
-    requires { ⌜ length (now edges) ≡ layerEdgesOf (w .shape .height) (w .shape .distance) ⌝ }
+    requires { ⌜ length (now edges) ≡ layerEdgesOf (w .shape .model) (w .shape .height) (w .shape .distance) ⌝ }
     requires { ⌜ length (now escapes) ≡ detectorsOf (w .shape .height) (w .shape .distance) ⌝ }
-    ensures { λ r. ⌜ asRound r (now (edges .exit)) (now (escapes .exit)) ≡ receivingRaw base w (now (bytes .entry)) ⌝ }
+    ensures { λ r. ⌜ asRound r (now (edges .exit)) (now (escapes .exit)) ≡ receivingRaw (ofModel (w .shape .model)) w (now (bytes .entry)) ⌝ }
 {
     let n = bytes.len();
     // both sheets by a name: the old one is read, the new one is stored

@@ -27,7 +27,7 @@ module _ (sh : Shape) (len at : ℕ) (r : Tested) (e : testedAnswer r ≡ unless
     place-passes = tests-fine (placeTests sh len at) (sym e ∙ ap testedAnswer k)
 
     pub place-inside : at ≤ len
-    place-inside = leb-true at len (passes-last (shapeTests (sh .height) (sh .distance)) (leb at len) 10 (sym e ∙ ap testedAnswer k))
+    place-inside = leb-true at len (passes-last (shapeTests (sh .height) (sh .distance) (sh .model)) (leb at len) 10 (sym e ∙ ap testedAnswer k))
 
 -- a writer of so many bytes, with more tests of its own
 module _ (sh : Shape) (old : List ℕ) (at : ℕ) (r : Tested) (e : testedAnswer r ≡ unless (placeTests sh (length old) at) (done tt 0)) (more : List (Bool × ℕ))

@@ -1,4 +1,4 @@
--- What the calls on streams answer and leave, in document 01's numbers. Assumes nothing.
+-- What the calls on streams answer and leave, in the documents' numbers. Assumes nothing.
 use Prim.Native.Nat.{ℕ}
 use mathlib.Core.Bool.{Bool}
 use mathlib.Core.List.{List, [], _∷_, _++_}
@@ -33,11 +33,11 @@ resultAnswer (resultRead.Steps steps next) = done steps next
 resultAnswer resultRead.End = ended
 resultAnswer (resultRead.Refused f) = turned f
 
--- THE TESTS, in the document's order
+-- THE TESTS, in the documents' order
 
--- 1, 2, 10: the shape, and the offset in a slice of so many bytes
+-- 1, 2, 31, 10: the shape, and the offset in a slice of so many bytes
 abbrev pub placeTests : Shape → ℕ → ℕ → List (Bool × ℕ)
-placeTests sh len at = shapeTests (sh .height) (sh .distance) ++ ((leb at len, 10) ∷ [])
+placeTests sh len at = shapeTests (sh .height) (sh .distance) (sh .model) ++ ((leb at len, 10) ∷ [])
 
 -- 3: a round's defects, one byte a detector
 abbrev pub defectsTest : Shape → List ℕ → Bool × ℕ
@@ -45,7 +45,7 @@ defectsTest sh defects = (eqb (length defects) (detectorsOf (sh .height) (sh .di
 
 -- 5: the edge buffer, one byte an edge of a layer
 abbrev pub edgesTest : Shape → List ℕ → Bool × ℕ
-edgesTest sh edges = (eqb (length edges) (layerEdgesOf (sh .height) (sh .distance)), 5)
+edgesTest sh edges = (eqb (length edges) (layerEdgesOf (sh .model) (sh .height) (sh .distance)), 5)
 
 -- 6: the escape buffer, one byte a detector
 abbrev pub escapesTest : Shape → List ℕ → Bool × ℕ
@@ -89,7 +89,7 @@ abbrev pub readResult : Shape → List ℕ → ℕ → List ℕ → List ℕ →
 readResult sh s at edges escapes =
     readIntoBoth
     (unless (placeTests sh (length s) at ++ (edgesTest sh edges ∷ escapesTest sh escapes ∷ []))
-    (resultAt s (layerEdgesOf (sh .height) (sh .distance)) (detectorsOf (sh .height) (sh .distance)) at))
+    (resultAt s (layerEdgesOf (sh .model) (sh .height) (sh .distance)) (detectorsOf (sh .height) (sh .distance)) at))
     edges
     escapes
 

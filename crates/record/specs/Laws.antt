@@ -1,7 +1,7 @@
 -- Laws of what the calls cite, for those who use the definitions. Assumes nothing.
 use Prim.Native.Nat.{ℕ, _+_, _≤_, _<_}
 use mathlib.Core.Path.{_≡_, refl, sym, _∙_, ap}
-use mathlib.Core.Bool.{true, false}
+use mathlib.Core.Bool.{Bool, true, false}
 use mathlib.Core.List.{List, [], _∷_, _++_}
 use lib.ListN.{length, length-append}
 use native.Mathlib.Omega.{arith}
@@ -16,58 +16,72 @@ use Rattle.number.specs.Number.{written, numberAt}
 use Rattle.number.specs.Laws.{length-written}
 use Rattle.list.specs.Sheet.{listed, listAt, readInto}
 use Rattle.list.specs.Laws.{length-listed}
-use Rattle.shape.specs.Sizes.{heightOk, distanceOk, detectorsOf, layerEdgesOf}
+use Rattle.shape.specs.Sizes.{heightOk, distanceOk, modelOk, detectorsOf, layerEdgesOf}
 use Rattle.shape.specs.declared.Shape.{Shape}
-use Rattle.record.specs.Records.{header, headerFrom, headerAt, unlessEnded, Result, result, resultFrom, resultAt, roundAt, resultEdges, resultEscapes}
+use Rattle.record.specs.Records.{header, onModel, onDistance, onHeight, headerAt, unlessEnded, Result, result, resultFrom, resultAt, roundAt, resultEdges, resultEscapes}
 use Rattle.record.specs.Calls.{placeTests, defectsTest, edgesTest, escapesTest, readRound, resultBuffered, readIntoBoth, readResult, stepsOf}
 
 -- THE HEADER
-
--- what is done with the height, and with the distance
-abbrev pub onDistance : ℕ → ℕ → ℕ → Answer Shape
-onDistance h d behind = elim (distanceOk d) [ true ↦ done (record { height = h; distance = d }) behind | false ↦ refused 2 ]
-
-abbrev pub onHeight : List ℕ → ℕ → ℕ → Answer Shape
-onHeight s h next = elim (heightOk h) [ true ↦ andThen (numberAt s next) (onDistance h) | false ↦ refused 1 ]
 
 pub header-steps : (s : List ℕ) (at : ℕ) → headerAt s at ≡ andThen (numberAt s at) (onHeight s)
 unfolding headerAt
 header-steps s at = refl
 
-module _ (s : List ℕ) (h at : ℕ) where
-  by-height : headerFrom s h at ≡ onHeight s h at
-  unfolding headerFrom
-  by-height = refl
-
-  pub header-high : heightOk h ≡ false → headerFrom s h at ≡ refused 1
-  header-high e = by-height ∙ fails (andThen (numberAt s at) (onDistance h)) (refused 1) e
-
-  module _ (e : heightOk h ≡ true) where
-    by-number : headerFrom s h at ≡ andThen (numberAt s at) (onDistance h)
-    by-number = by-height ∙ passes (andThen (numberAt s at) (onDistance h)) (refused 1) e
-
-    pub header-turned : (f : Refusal) → numberAt s at ≡ turned f → headerFrom s h at ≡ turned f
-    header-turned f k = by-number ∙ ap (λ (a : Answer ℕ). andThen a (onDistance h)) k ∙ turned-as f (onDistance h)
-
-    module _ (d behind : ℕ) (k : numberAt s at ≡ done d behind) where
-      pub header-far : distanceOk d ≡ false → headerFrom s h at ≡ refused 2
-      header-far m = by-number ∙ goes-on (onDistance h) k ∙ fails _ _ m
-
-      pub header-done : distanceOk d ≡ true → headerFrom s h at ≡ done (record { height = h; distance = d }) behind
-      header-done m = by-number ∙ goes-on (onDistance h) k ∙ passes _ _ m
-
 pub header-none : (s : List ℕ) (at : ℕ) (f : Refusal) → numberAt s at ≡ turned f → headerAt s at ≡ turned f
 header-none s at f k = header-steps s at ∙ ap (λ (a : Answer ℕ). andThen a (onHeight s)) k ∙ turned-as f (onHeight s)
 
-pub header-next : (s : List ℕ) (at h next : ℕ) → numberAt s at ≡ done h next → headerAt s at ≡ headerFrom s h next
-header-next s at h next k = header-steps s at ∙ goes-on (onHeight s) k ∙ sym (by-height s h next)
+pub header-next : (s : List ℕ) (at h next : ℕ) → numberAt s at ≡ done h next → headerAt s at ≡ onHeight s h next
+header-next s at h next k = header-steps s at ∙ goes-on (onHeight s) k
 
-pub header-is : (sh : Shape) → header sh ≡ written (sh .height) ++ written (sh .distance)
+-- a test that passes, and the number behind it
+module _ {A : Type 0} {t : Bool} (e : t ≡ true) (s : List ℕ) (at : ℕ) (f : ℕ → ℕ → Answer A) (other : Answer A) where
+  number-turned : (r : Refusal) → numberAt s at ≡ turned r → elim t [ true ↦ andThen (numberAt s at) f | false ↦ other ] ≡ turned {A = A} r
+  number-turned r k = passes (andThen (numberAt s at) f) other e ∙ ap (λ (a : Answer ℕ). andThen a f) k ∙ turned-as r f
+
+  number-next : (n next : ℕ) → numberAt s at ≡ done n next → elim t [ true ↦ andThen (numberAt s at) f | false ↦ other ] ≡ f n next
+  number-next n next k = passes (andThen (numberAt s at) f) other e ∙ goes-on f k
+
+module _ (s : List ℕ) (h at : ℕ) where
+  pub height-wrong : heightOk h ≡ false → onHeight s h at ≡ refused 1
+  height-wrong e = fails _ _ e
+
+  module _ (e : heightOk h ≡ true) where
+    pub distance-turned : (f : Refusal) → numberAt s at ≡ turned f → onHeight s h at ≡ turned f
+    distance-turned f k = number-turned e s at (onDistance s h) (refused 1) f k
+
+    pub distance-next : (d last : ℕ) → numberAt s at ≡ done d last → onHeight s h at ≡ onDistance s h d last
+    distance-next d last k = number-next e s at (onDistance s h) (refused 1) d last k
+
+module _ (s : List ℕ) (h d at : ℕ) where
+  pub distance-wrong : distanceOk d ≡ false → onDistance s h d at ≡ refused 2
+  distance-wrong e = fails _ _ e
+
+  module _ (e : distanceOk d ≡ true) where
+    pub model-turned : (f : Refusal) → numberAt s at ≡ turned f → onDistance s h d at ≡ turned f
+    model-turned f k = number-turned e s at (onModel h d) (refused 2) f k
+
+    module _ (m behind : ℕ) (k : numberAt s at ≡ done m behind) where
+      by-model : onDistance s h d at ≡ onModel h d m behind
+      by-model = number-next e s at (onModel h d) (refused 2) m behind k
+
+      pub model-wrong : modelOk m ≡ false → onDistance s h d at ≡ refused 31
+      model-wrong w = by-model ∙ fails _ _ w
+
+      pub header-done : modelOk m ≡ true → onDistance s h d at ≡ done (record { height = h; distance = d; model = m }) behind
+      header-done w = by-model ∙ passes _ _ w
+
+pub header-is : (sh : Shape) → header sh ≡ written (sh .height) ++ (written (sh .distance) ++ written (sh .model))
 unfolding header
 header-is sh = refl
 
+pub header-long : (sh : Shape) → length (header sh) ≡ length (written (sh .height)) + (length (written (sh .distance)) + length (written (sh .model)))
+header-long sh =
+    ap length (header-is sh)
+    ∙ length-append (written (sh .height)) (written (sh .distance) ++ written (sh .model))
+    ∙ ap (λ (n : ℕ). length (written (sh .height)) + n) (length-append (written (sh .distance)) (written (sh .model)))
+
 pub length-header : (sh : Shape) → 0 < length (header sh)
-length-header sh = rw (header-is sh) (omega (arith, length-append (written (sh .height)) (written (sh .distance)), length-written (sh .height) .0))
+length-header sh = omega (arith, header-long sh, length-written (sh .height) .0)
 
 -- A RECORD, by whether a byte is left
 
@@ -190,4 +204,4 @@ pub result-turned : (sh : Shape) (s : List ℕ) (at : ℕ) (edges escapes : List
 result-turned sh s at edges escapes f h =
     both-turned f edges escapes
     ∙ sym (ap (λ (a : Answer Result). readIntoBoth a edges escapes)
-    (h Result (resultAt s (layerEdgesOf (sh .height) (sh .distance)) (detectorsOf (sh .height) (sh .distance)) at)))
+    (h Result (resultAt s (layerEdgesOf (sh .model) (sh .height) (sh .distance)) (detectorsOf (sh .height) (sh .distance)) at)))

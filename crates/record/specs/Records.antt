@@ -1,5 +1,6 @@
 -- What stands in the streams: the header, a round of the input, and a round of the result. Assumes nothing.
 use Prim.Native.Nat.{ℕ}
+use mathlib.Core.Path.{_≡_}
 use mathlib.Core.Bool.{true, false}
 use mathlib.Core.List.{List, _++_}
 use lib.Dec.{ltb}
@@ -7,26 +8,31 @@ use lib.ListN.{length}
 use Rattle.refusal.specs.Answer.{Answer, done, ended, refused, andThen}
 use Rattle.number.specs.Number.{written, numberAt}
 use Rattle.list.specs.Sheet.{listed, listAt}
-use Rattle.shape.specs.Sizes.{heightOk, distanceOk}
+use Rattle.shape.specs.Sizes.{heightOk, distanceOk, modelOk, inRange}
 use Rattle.shape.specs.declared.Shape.{Shape}
 
--- THE HEADER: height, distance
+-- THE HEADER: height, distance, noise model
 
 unfoldable pub header : Shape → List ℕ
-header sh = written (sh .height) ++ written (sh .distance)
+header sh = written (sh .height) ++ (written (sh .distance) ++ written (sh .model))
 
--- the height is tested as soon as it is read, and so is the distance
-unfoldable pub headerFrom : List ℕ → ℕ → ℕ → Answer Shape
-headerFrom s h at =
-    elim (heightOk h) [
-      | false ↦ refused 1
-      | true ↦ andThen (numberAt s at) (λ d behind.
-          elim (distanceOk d) [ true ↦ done (record { height = h; distance = d }) behind | false ↦ refused 2 ])
-    ]
+-- each number is tested as soon as it is read: what is done with the model, with the distance, and with the height
+abbrev pub onModel : ℕ → ℕ → ℕ → ℕ → Answer Shape
+onModel h d m behind = elim (modelOk m) [ true ↦ done (record { height = h; distance = d; model = m }) behind | false ↦ refused 31 ]
+
+abbrev pub onDistance : List ℕ → ℕ → ℕ → ℕ → Answer Shape
+onDistance s h d last = elim (distanceOk d) [ true ↦ andThen (numberAt s last) (onModel h d) | false ↦ refused 2 ]
+
+abbrev pub onHeight : List ℕ → ℕ → ℕ → Answer Shape
+onHeight s h next = elim (heightOk h) [ true ↦ andThen (numberAt s next) (onDistance s h) | false ↦ refused 1 ]
 
 unfoldable pub headerAt : List ℕ → ℕ → Answer Shape
-unfolding headerFrom
-headerAt s at = andThen (numberAt s at) (λ h next. headerFrom s h next)
+headerAt s at = andThen (numberAt s at) (onHeight s)
+
+-- a shape that a header can name
+pub record IsShape (sh : Shape) : Type 0 where
+  pub sizes : inRange (sh .height) (sh .distance) ≡ true
+  pub model : modelOk (sh .model) ≡ true
 
 -- no bytes left is an end; anything else is read
 abbrev pub unlessEnded : {A : Type 0} → List ℕ → ℕ → Answer A → Answer A

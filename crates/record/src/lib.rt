@@ -6,7 +6,7 @@ ghost use Rattle.refusal.specs.Answer.{unless, done};
 ghost use Rattle.refusal.specs.Writing.{front, putTo};
 ghost use Rattle.number.specs.Number.{writtenBuffered};
 ghost use Rattle.shape.specs.Sizes.{testedAnswer};
-ghost use Rattle.record.specs.Records.{header, headerAt, headerFrom};
+ghost use Rattle.record.specs.Records.{header, headerAt, onHeight, onDistance};
 ghost use Rattle.record.specs.Calls.{headerAnswer, placeTests, writeHeader};
 use number::Read;
 use number::Wrote;
@@ -48,27 +48,41 @@ pub fn test_place(shape: Shape, len: usize, at: usize) -> Tested
     Tested::Fine
 }
 
+// The header whose height and distance were read, with its model at an offset. The height was tested.
+fn model_from(src: &[u8], height: u8, distance: u32, at: usize) -> HeaderRead
+    ensures { λ r. ⌜ headerAnswer r ≡ onDistance (now (src .entry)) height distance at ⌝ }
+{
+    if !extent::distance_ok(distance) {
+        return HeaderRead::Refused(Refusal::Distance);
+    }
+    match number::read_number(src, at) {
+        Read::Refused(f) => HeaderRead::Refused(f),
+        Read::Number(model, behind) => {
+            if !extent::model_ok(model) {
+                return HeaderRead::Refused(Refusal::Model);
+            }
+            HeaderRead::Shape(
+                Shape {
+                    height,
+                    distance: distance as u8,
+                    model: model as u8,
+                },
+                behind,
+            )
+        }
+    }
+}
+
 // The header whose height was read, with its distance at an offset.
 fn header_from(src: &[u8], height: u32, at: usize) -> HeaderRead
-    ensures { λ r. ⌜ headerAnswer r ≡ headerFrom (now (src .entry)) height at ⌝ }
+    ensures { λ r. ⌜ headerAnswer r ≡ onHeight (now (src .entry)) height at ⌝ }
 {
     if !extent::height_ok(height) {
         return HeaderRead::Refused(Refusal::Height);
     }
     match number::read_number(src, at) {
         Read::Refused(f) => HeaderRead::Refused(f),
-        Read::Number(distance, behind) => {
-            if !extent::distance_ok(distance) {
-                return HeaderRead::Refused(Refusal::Distance);
-            }
-            HeaderRead::Shape(
-                Shape {
-                    height: height as u8,
-                    distance: distance as u8,
-                },
-                behind,
-            )
-        }
+        Read::Number(distance, next) => model_from(src, height as u8, distance, next),
     }
 }
 
@@ -88,11 +102,14 @@ fn put_header(shape: Shape, out: &mut [u8]) -> usize
 {
     let height = shape.height as u64;
     let distance = shape.distance as u64;
-    if out.len() < number::number_len(height) + number::number_len(distance) {
+    let model = shape.model as u64;
+    let len = number::number_len(height) + number::number_len(distance) + number::number_len(model);
+    if out.len() < len {
         return 0;
     }
     let i = number::put_number(height, out);
-    i + number::put_number(distance, &mut out[i..])
+    let j = i + number::put_number(distance, &mut out[i..]);
+    j + number::put_number(model, &mut out[j..])
 }
 
 // Writes a header from an offset on.

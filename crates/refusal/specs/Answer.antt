@@ -1,9 +1,9 @@
--- What a call on a stream answers, in document 01's numbers. Assumes nothing.
+-- What a call on a stream answers, in the documents' numbers. Assumes nothing.
 use Prim.Native.Nat.{ℕ}
 use mathlib.Core.Bool.{Bool, true, false}
 use mathlib.Core.List.{List, [], _∷_}
 use Rattle.refusal.specs.declared.Refusal.{Refusal}
-use Rattle.refusal.specs.declared.Refusal.the-variants.{Height, Distance, Detectors, Byte, Edges, Escapes, Cut, Form, Entry, Offset, Room, NotWellFormed, WrongStage, LastRound}
+use Rattle.refusal.specs.declared.Refusal.the-variants.{Height, Distance, Detectors, Byte, Edges, Escapes, Cut, Form, Entry, Offset, Room, NotWellFormed, WrongStage, LastRound, Model}
 
 -- A value and the offset behind it; no bytes left; or a refusal's number, for 7, 8 and 9 with the offset of the number's first byte
 pub data Answer (A : Type 0) : Type 0 where
@@ -17,7 +17,7 @@ pub data Code : Type 0 where
   plain : ℕ → Code
   placed : ℕ → ℕ → Code
 
--- the document's number of each refusal
+-- the documents' number of each refusal
 abbrev pub codeOf : Refusal → Code
 codeOf Height = plain 1
 codeOf Distance = plain 2
@@ -33,6 +33,7 @@ codeOf Room = plain 11
 codeOf NotWellFormed = plain 21
 codeOf WrongStage = plain 22
 codeOf LastRound = plain 23
+codeOf Model = plain 31
 
 abbrev pub byCode : {A : Type 0} → Code → Answer A
 byCode (plain n) = refused n
@@ -69,7 +70,7 @@ andThen ended f = ended
 andThen (refused n) f = refused n
 andThen (refusedAt n at) f = refusedAt n at
 
--- the first test that fails gives its refusal; the tests stand in the document's order
+-- the first test that fails gives its refusal; the tests stand in the documents' order
 abbrev pub unless : {A : Type 0} → List (Bool × ℕ) → Answer A → Answer A
 unless [] a = a
 unless (t ∷ ts) a = elim (t .0) [ true ↦ unless ts a | false ↦ refused (t .1) ]

@@ -1,4 +1,4 @@
-// Why a call is turned back: document 01's numbered refusals, by name.
+// Why a call is turned back: the numbered refusals of documents 01 and 02, by name.
 ghost use mathlib.Core.Path.{_≡_};
 ghost use Rattle.refusal.specs.Answer.{status, placeOr, turned};
 
@@ -31,9 +31,11 @@ pub enum Refusal {
     WrongStage,
     // The next round's number is the last that 32 bits can hold.
     LastRound,
+    // The noise model is not 0 or 1.
+    Model,
 }
 
-// The document's number of a refusal.
+// The documents' number of a refusal.
 pub fn number(f: Refusal) -> u8
     ensures { λ r. ⌜ r ≡ status (turned {A = Unit {0}} f) ⌝ }
 {
@@ -52,6 +54,7 @@ pub fn number(f: Refusal) -> u8
         Refusal::NotWellFormed => 21,
         Refusal::WrongStage => 22,
         Refusal::LastRound => 23,
+        Refusal::Model => 31,
     }
 }
 
@@ -74,5 +77,6 @@ pub fn place_or(f: Refusal, other: usize) -> usize
         Refusal::NotWellFormed => other,
         Refusal::WrongStage => other,
         Refusal::LastRound => other,
+        Refusal::Model => other,
     }
 }

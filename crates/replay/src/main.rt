@@ -2,14 +2,14 @@
 //
 // The script is text, at most 65,536 bytes: a command a line, by its first letter (with `r` by its second too), then numbers in decimal.
 //
-//   open H D                 a fresh window; where it is refused, the one that the call gives
-//   round E S BYTES          a round: edge and escape buffers of E and S bytes (at most 1,024 and 256), each byte 7 before the call;
+//   open H D M               a fresh window of height H, distance D and noise model M; where it is refused, the one that the call gives
+//   round E S BYTES          a round: edge and escape buffers of E and S bytes (at most 1,280 and 256), each byte 7 before the call;
 //                            the slice's bytes as digits, one a byte (at most 256; none if the line ends)
 //   raw E S BYTES            a raw round, likewise: the bytes are measurements
 //   grow
 //   merging N                merging steps, at least one and at most N, up to one that is not busy
 //   run B                    a run with budget B
-//   dims H D                 edits of the window: its shape,
+//   dims H D M               edits of the window: its shape,
 //   stage S                  0 rest, 1 to grow, else merging,
 //   next N
 //   entry I A D U P M        node I in the internal order: active, defect, unrooted (0 or 1), pointer, mark (65,536 or more: reset),
@@ -129,11 +129,12 @@ fn digest(w: Window) -> u64 {
     let stage = w.stage;
     let a = mix(0, wide(shape.height));
     let b = mix(a, wide(shape.distance));
-    let c = mix(b, stage_code(stage));
-    let d = mix(c, w.next as u64);
-    let e = mix_nodes(d, w);
-    let f = mix_growth(e, &w.growth);
-    mix_correction(f, &w.correction)
+    let c = mix(b, wide(shape.model));
+    let d = mix(c, stage_code(stage));
+    let e = mix(d, w.next as u64);
+    let f = mix_nodes(e, w);
+    let g = mix_growth(f, &w.growth);
+    mix_correction(g, &w.correction)
 }
 
 // One binary digit more, modulo the same prime.
@@ -335,7 +336,8 @@ fn byte(x: u32) -> u8 {
 fn open(script: &[u8; SCRIPT_BYTES], from: usize) -> Window {
     let height = number(script, from);
     let distance = number(script, height.at);
-    let given = fresh::fresh(height.value, distance.value);
+    let model = number(script, distance.at);
+    let given = fresh::fresh(height.value, distance.value, model.value);
     let answer = given.answer;
     say(b"open ");
     say_called(answer);
@@ -362,10 +364,10 @@ fn receive(w: Window, raw: bool, bytes: &[u8], edges: &mut [u8], escapes: &mut [
 }
 
 // Seven in every byte: what no call leaves.
-fn edge_marks() -> [u8; 1024]
-    ensures { λ r. ⌜ 1024 ≡ length r ⌝ }
+fn edge_marks() -> [u8; 1280]
+    ensures { λ r. ⌜ 1280 ≡ length r ⌝ }
 {
-    [7; 1024]
+    [7; 1280]
 }
 
 fn escape_marks() -> [u8; 256]
@@ -430,12 +432,20 @@ fn run(w: Window, budget: u32) -> Window {
 
 // THE EDITS
 
-fn set_shape(w: Window, height: u32, distance: u32) -> Window {
+// A shape by the numbers that are next in the script.
+fn shape_by(script: &[u8; SCRIPT_BYTES], from: usize) -> Shape {
+    let height = number(script, from);
+    let distance = number(script, height.at);
+    let model = number(script, distance.at);
+    Shape {
+        height: byte(height.value),
+        distance: byte(distance.value),
+        model: byte(model.value),
+    }
+}
+
+fn set_shape(w: Window, shape: Shape) -> Window {
     let mut v = w;
-    let shape = Shape {
-        height: byte(height),
-        distance: byte(distance),
-    };
     v.shape = shape;
     v
 }
@@ -533,7 +543,7 @@ fn edit(script: &[u8; SCRIPT_BYTES], from: usize, letter: u8, w: Window) -> Wind
     let i = first.value as usize;
     say(b"edit ");
     match letter {
-        b'd' => set_shape(w, first.value, second.value),
+        b'd' => set_shape(w, shape_by(script, from)),
         b's' => set_stage(w, first.value),
         b'n' => set_next(w, first.value),
         b'e' => set_node(w, i, node_of(script, first.at)),
@@ -599,7 +609,7 @@ fn line(script: &[u8; SCRIPT_BYTES], from: usize, letter: u8, w: Window) -> Wind
 fn main() {
     let mut script = io::large_buffer();
     io::read_full(0, &mut script);
-    let given = fresh::fresh(1, 2);
+    let given = fresh::fresh(1, 2, 0);
     let mut window = given.window;
     let mut at: usize = 0;
     while at < SCRIPT_BYTES {

@@ -25,11 +25,12 @@ module _ (place : ℕ) (f : Refusal) {r : Reply} (q : r ≡ replied (turned {A =
   value-turned a value e =
       when-turned (λ (x : Answer ℕ). valueBy x value place) (λ (r : Reply). valueOut r value) place (λ n. refl) (λ n at. refl) a f q e
 
-  pub header-turned : (a : Answer Shape) (height distance : ℕ) → a ≡ turned f → headerOut r height distance ≡ headerBy a height distance place
-  header-turned a height distance e =
-      when-turned (λ (x : Answer Shape). headerBy x height distance place) (λ (r : Reply). headerOut r height distance) place (λ n. refl) (λ n at. refl) a f q e
+  pub header-turned : (a : Answer Shape) (height distance model : ℕ) → a ≡ turned f
+      → headerOut r height distance model ≡ headerBy a height distance model place
+  header-turned a height distance model e =
+      when-turned (λ (x : Answer Shape). headerBy x height distance model place) (λ (r : Reply). headerOut r height distance model) place (λ n. refl) (λ n at. refl) a f q e
 
-  pub scan-turned : (a : Answer Scanned) (height distance rounds : ℕ) → a ≡ turned f
-      → scanOut r height distance rounds ≡ scanBy a height distance rounds place
-  scan-turned a height distance rounds e =
-      when-turned (λ (x : Answer Scanned). scanBy x height distance rounds place) (λ (r : Reply). scanOut r height distance rounds) place (λ n. refl) (λ n at. refl) a f q e
+  pub scan-turned : (a : Answer Scanned) (height distance model rounds : ℕ) → a ≡ turned f
+      → scanOut r height distance model rounds ≡ scanBy a height distance model rounds place
+  scan-turned a height distance model rounds e =
+      when-turned (λ (x : Answer Scanned). scanBy x height distance model rounds place) (λ (r : Reply). scanOut r height distance model rounds) place (λ n. refl) (λ n at. refl) a f q e

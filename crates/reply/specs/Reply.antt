@@ -34,29 +34,36 @@ pub record HeaderOut : Type 0 where
   pub reply : Reply
   pub height : ℕ
   pub distance : ℕ
+  pub model : ℕ
 
-abbrev pub headerOut : Reply → ℕ → ℕ → HeaderOut
-headerOut r height distance = record { reply = r; height = height; distance = distance }
+abbrev pub headerOut : Reply → ℕ → ℕ → ℕ → HeaderOut
+headerOut r height distance model = record { reply = r; height = height; distance = distance; model = model }
 
-abbrev pub headerBy : Answer Shape → ℕ → ℕ → ℕ → HeaderOut
-headerBy a height distance place =
-    headerOut (replied a place) (valueOr a (λ (sh : Shape). sh .height) height) (valueOr a (λ (sh : Shape). sh .distance) distance)
+abbrev pub headerBy : Answer Shape → ℕ → ℕ → ℕ → ℕ → HeaderOut
+headerBy a height distance model place =
+    headerOut
+    (replied a place)
+    (valueOr a (λ (sh : Shape). sh .height) height)
+    (valueOr a (λ (sh : Shape). sh .distance) distance)
+    (valueOr a (λ (sh : Shape). sh .model) model)
 
 pub record ScanOut : Type 0 where
   pub reply : Reply
   pub height : ℕ
   pub distance : ℕ
+  pub model : ℕ
   pub rounds : ℕ
 
-abbrev pub scanOut : Reply → ℕ → ℕ → ℕ → ScanOut
-scanOut r height distance rounds = record { reply = r; height = height; distance = distance; rounds = rounds }
+abbrev pub scanOut : Reply → ℕ → ℕ → ℕ → ℕ → ScanOut
+scanOut r height distance model rounds = record { reply = r; height = height; distance = distance; model = model; rounds = rounds }
 
-abbrev pub scanBy : Answer Scanned → ℕ → ℕ → ℕ → ℕ → ScanOut
-scanBy a height distance rounds place =
+abbrev pub scanBy : Answer Scanned → ℕ → ℕ → ℕ → ℕ → ℕ → ScanOut
+scanBy a height distance model rounds place =
     scanOut
     (replied a place)
     (valueOr a (λ (t : Scanned). t .shape .height) height)
     (valueOr a (λ (t : Scanned). t .shape .distance) distance)
+    (valueOr a (λ (t : Scanned). t .shape .model) model)
     (valueOr a (λ (t : Scanned). t .rounds) rounds)
 
 -- A DECODING

@@ -66,14 +66,21 @@ pub fn list(l: Listed, place: &mut usize) -> u8
     }
 }
 
-// A header, whose shape goes to height and distance.
-pub fn header(h: HeaderRead, height: &mut u32, distance: &mut u32, place: &mut usize) -> u8
-    ensures { λ r. ⌜ headerOut (reply r (now (place .exit))) (now (height .exit)) (now (distance .exit)) ≡ headerBy (headerAnswer h) (now (height .entry)) (now (distance .entry)) (now (place .entry)) ⌝ }
+// A header, whose shape goes to height, distance and model.
+pub fn header(
+    h: HeaderRead,
+    height: &mut u32,
+    distance: &mut u32,
+    model: &mut u32,
+    place: &mut usize,
+) -> u8
+    ensures { λ r. ⌜ headerOut (reply r (now (place .exit))) (now (height .exit)) (now (distance .exit)) (now (model .exit)) ≡ headerBy (headerAnswer h) (now (height .entry)) (now (distance .entry)) (now (model .entry)) (now (place .entry)) ⌝ }
 {
     match h {
         HeaderRead::Shape(shape, next) => {
             *height = shape.height as u32;
             *distance = shape.distance as u32;
+            *model = shape.model as u32;
             *place = next;
             0
         }
@@ -116,15 +123,17 @@ pub fn stream(
     len: usize,
     height: &mut u32,
     distance: &mut u32,
+    model: &mut u32,
     rounds: &mut usize,
     place: &mut usize,
 ) -> u8
-    ensures { λ r. ⌜ scanOut (reply r (now (place .exit))) (now (height .exit)) (now (distance .exit)) (now (rounds .exit)) ≡ scanBy (streamAnswer s len) (now (height .entry)) (now (distance .entry)) (now (rounds .entry)) (now (place .entry)) ⌝ }
+    ensures { λ r. ⌜ scanOut (reply r (now (place .exit))) (now (height .exit)) (now (distance .exit)) (now (model .exit)) (now (rounds .exit)) ≡ scanBy (streamAnswer s len) (now (height .entry)) (now (distance .entry)) (now (model .entry)) (now (rounds .entry)) (now (place .entry)) ⌝ }
 {
     match s {
         StreamRead::Rounds(shape, count) => {
             *height = shape.height as u32;
             *distance = shape.distance as u32;
+            *model = shape.model as u32;
             *rounds = count;
             *place = len;
             0

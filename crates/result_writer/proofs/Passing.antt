@@ -13,9 +13,9 @@ use Rattle.list.specs.Sheet.{areBits}
 use Rattle.list_writer.specs.Gaps.{top}
 use Rattle.list_writer.specs.Laws.{top-zeros, bits-told, listed-zero}
 use Rattle.shape.specs.Ranges.{halves}
-use Rattle.shape.specs.Sizes.{inRange, heightOk, distanceOk, detectorsOf, layerEdgesOf}
+use Rattle.shape.specs.Sizes.{heightOk, distanceOk, detectorsOf, layerEdgesOf}
 use Rattle.shape.specs.declared.Shape.{Shape}
-use Rattle.record.specs.Records.{result}
+use Rattle.record.specs.Records.{IsShape, result}
 use Rattle.record.specs.Calls.{placeTests, edgesTest, escapesTest, writeResult, asResult}
 use Rattle.record.specs.Laws.{result-is}
 
@@ -35,13 +35,13 @@ passed tests old at bytes h =
     sym (ap (λ (a : Answer (Unit {0})). buffered a (valueOr a (λ u. laid old at bytes) old)) e)
 
 -- what a caller knows of its round
-module _ (sh : Shape) (edges escapes old : List ℕ) (at : ℕ) (range : inRange (sh .height) (sh .distance) ≡ true) (inside : at ≤ length old)
-    (few : length edges ≡ layerEdgesOf (sh .height) (sh .distance)) (size : length escapes ≡ detectorsOf (sh .height) (sh .distance))
+module _ (sh : Shape) (edges escapes old : List ℕ) (at : ℕ) (range : IsShape sh) (inside : at ≤ length old)
+    (few : length edges ≡ layerEdgesOf (sh .model) (sh .height) (sh .distance)) (size : length escapes ≡ detectorsOf (sh .height) (sh .distance))
     (clean : areBits edges ≡ true) (pure : areBits escapes ≡ true) where
   round-passes : Passes (placeTests sh (length old) at ++ more sh edges escapes)
   round-passes A a =
-      let p = halves (heightOk (sh .height)) (distanceOk (sh .distance)) range in
-      rw (p .0, p .1, le-leb at (length old) inside, eq-eqb (length edges) (layerEdgesOf (sh .height) (sh .distance)) few, eq-eqb (length escapes) (detectorsOf (sh .height) (sh .distance)) size, clean, pure) refl
+      let p = halves (heightOk (sh .height)) (distanceOk (sh .distance)) (range .sizes) in
+      rw (p .0, p .1, range .model, le-leb at (length old) inside, eq-eqb (length edges) (layerEdgesOf (sh .model) (sh .height) (sh .distance)) few, eq-eqb (length escapes) (detectorsOf (sh .height) (sh .distance)) size, clean, pure) refl
 
   pub known : (steps : ℕ) → writing [] old at (result (asResult edges escapes steps)) ≡ writeResult sh (asResult edges escapes steps) old at
   known steps = passed (placeTests sh (length old) at ++ more sh edges escapes) old at (result (asResult edges escapes steps)) round-passes

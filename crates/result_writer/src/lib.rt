@@ -8,8 +8,8 @@ ghost use Rattle.refusal.specs.Writing.{front, putTo, writing};
 ghost use Rattle.number.specs.Number.{writtenBuffered};
 ghost use Rattle.list.specs.Sheet.{areBits};
 ghost use Rattle.list_writer.specs.Gaps.{Measured};
-ghost use Rattle.shape.specs.Sizes.{inRange, detectorsOf, layerEdgesOf};
-ghost use Rattle.record.specs.Records.{result};
+ghost use Rattle.shape.specs.Sizes.{detectorsOf, layerEdgesOf};
+ghost use Rattle.record.specs.Records.{IsShape, result};
 ghost use Rattle.record.specs.Calls.{writeResult, asResult};
 use list_writer::Measure;
 use number::Wrote;
@@ -77,8 +77,8 @@ pub fn put_round(
     out: &mut [u8],
     at: usize,
 ) -> Wrote
-    requires { ⌜ inRange (shape .height) (shape .distance) ≡ true ⌝ }
-    requires { ⌜ length (now edges) ≡ layerEdgesOf (shape .height) (shape .distance) ⌝ }
+    requires { ⌜ IsShape shape ⌝ }
+    requires { ⌜ length (now edges) ≡ layerEdgesOf (shape .model) (shape .height) (shape .distance) ⌝ }
     requires { ⌜ length (now escapes) ≡ detectorsOf (shape .height) (shape .distance) ⌝ }
     requires { ⌜ areBits (now edges) ≡ true ⌝ }
     requires { ⌜ areBits (now escapes) ≡ true ⌝ }
@@ -93,9 +93,9 @@ pub fn put_round(
 // The same for a round with no committed edge and no escaped defect: all entries are 0, and none is looked at. Every list of zeros has the
 // bytes of the empty one.
 pub fn write_quiet(shape: Shape, steps: u32, out: &mut [u8], at: usize) -> Wrote
-    requires { ⌜ inRange (shape .height) (shape .distance) ≡ true ⌝ }
+    requires { ⌜ IsShape shape ⌝ }
     requires { ⌜ at ≤ length (now out) ⌝ }
-    ensures { λ r. ⌜ writtenBuffered r (now (out .exit)) ≡ writeResult shape (asResult (replicate (layerEdgesOf (shape .height) (shape .distance)) 0) (replicate (detectorsOf (shape .height) (shape .distance)) 0) steps) (now (out .entry)) at ⌝ }
+    ensures { λ r. ⌜ writtenBuffered r (now (out .exit)) ≡ writeResult shape (asResult (replicate (layerEdgesOf (shape .model) (shape .height) (shape .distance)) 0) (replicate (detectorsOf (shape .height) (shape .distance)) 0) steps) (now (out .entry)) at ⌝ }
 {
     let none: [u8; 0] = [];
     let first = Measure {

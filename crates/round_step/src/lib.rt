@@ -10,7 +10,7 @@ ghost use mathlib.Core.Bool.{true};
 ghost use Prim.Native.Nat.{_<_};
 ghost use lib.ListN.{length};
 ghost use Rattle.shape.specs.Sizes.{inRange, detectorsOf};
-ghost use Rattle.steps.specs.Steps.{base};
+ghost use Rattle.steps.specs.Models.{ofModel};
 ghost use Rattle.window.specs.Window.{maxNext};
 ghost use Rattle.flat.specs.Entries.{plane, stateOf, Long};
 ghost use Rattle.flat.specs.Plan.{planOf};
@@ -36,7 +36,7 @@ fn fall_nodes(
     nodes: &mut [u8; PLANE],
 )
     requires { ⌜ inRange (shape .height) (shape .distance) ≡ true ⌝ }
-    requires { ⌜ z ≡ sizesOf base (shape .height) (shape .distance) ⌝ }
+    requires { ⌜ z ≡ sizesOf (ofModel (shape .model)) (shape .height) (shape .distance) ⌝ }
     requires { ⌜ length (now bytes) ≡ detectorsOf (shape .height) (shape .distance) ⌝ }
     requires { ⌜ length (now nodes) ≡ plane ⌝ }
     ensures { λ _. ⌜ FallsNodes (shape .height) (shape .distance) (now (bytes .entry)) (now («old_nodes» .entry)) (now (nodes .exit)) ⌝ }
@@ -55,7 +55,7 @@ fn fall_marks(
     table: &[u16; TABLE],
 )
     requires { ⌜ inRange (shape .height) (shape .distance) ≡ true ⌝ }
-    requires { ⌜ z ≡ sizesOf base (shape .height) (shape .distance) ⌝ }
+    requires { ⌜ z ≡ sizesOf (ofModel (shape .model)) (shape .height) (shape .distance) ⌝ }
     requires { ⌜ length (now marks) ≡ plane ⌝ }
     ensures { λ _. ⌜ FallsMarks (shape .height) (shape .distance) (now (table .entry)) (now («old_marks» .entry)) (now (marks .exit)) ⌝ }
 {
@@ -79,14 +79,14 @@ pub fn fall(
     table: &[u16; TABLE],
 )
     requires { ⌜ inRange (shape .height) (shape .distance) ≡ true ⌝ }
-    requires { ⌜ z ≡ sizesOf base (shape .height) (shape .distance) ⌝ }
-    requires { ⌜ Filled base (shape .height) (shape .distance) (now table) ⌝ }
+    requires { ⌜ z ≡ sizesOf (ofModel (shape .model)) (shape .height) (shape .distance) ⌝ }
+    requires { ⌜ Filled (ofModel (shape .model)) (shape .height) (shape .distance) (now table) ⌝ }
     requires { ⌜ length (now bytes) ≡ detectorsOf (shape .height) (shape .distance) ⌝ }
     requires { ⌜ Long (now nodes) (now marks) (now edges) ⌝ }
-    requires { ⌜ NoneAbove base (shape .height) (shape .distance) (now «old_edges») ⌝ }
-    requires { ⌜ NoneOutside base (shape .height) (shape .distance) (now edges) ⌝ }
+    requires { ⌜ NoneAbove (ofModel (shape .model)) (shape .height) (shape .distance) (now «old_edges») ⌝ }
+    requires { ⌜ NoneOutside (ofModel (shape .model)) (shape .height) (shape .distance) (now edges) ⌝ }
     ensures { λ _. ⌜ Long (now (nodes .exit)) (now (marks .exit)) (now (edges .exit)) ⌝ }
-    ensures { λ _. ⌜ Sinks base (shape .height) (shape .distance) (planOf z (now (table .entry))) second (now (bytes .entry)) (stateOf (now («old_nodes» .entry)) (now («old_marks» .entry)) (now («old_edges» .entry))) (stateOf (now (nodes .exit)) (now (marks .exit)) (now (edges .exit))) ⌝ }
+    ensures { λ _. ⌜ Sinks (ofModel (shape .model)) (shape .height) (shape .distance) (planOf z (now (table .entry))) second (now (bytes .entry)) (stateOf (now («old_nodes» .entry)) (now («old_marks» .entry)) (now («old_edges» .entry))) (stateOf (now (nodes .exit)) (now (marks .exit)) (now (edges .exit))) ⌝ }
 {
     fall_nodes(shape, z, bytes, old_nodes, nodes);
     fall_marks(shape, z, old_marks, marks, table);

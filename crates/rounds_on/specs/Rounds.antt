@@ -7,7 +7,8 @@ use mathlib.Core.List.{List}
 use lib.ListN.{length}
 use Rattle.refusal.specs.Bytes.{Bytes}
 use Rattle.shape.specs.declared.Shape.{Shape}
-use Rattle.steps.specs.Steps.{base}
+use Rattle.steps.specs.Steps.{Table}
+use Rattle.steps.specs.Models.{ofModel}
 use Rattle.window.specs.Window.{isRest}
 use Rattle.window.specs.declared.Window.{Window}
 use Rattle.closure.specs.Closure.{Kept}
@@ -25,37 +26,37 @@ use Rattle.one_record.specs.RecordOn.{RecordOn}
 use Rattle.rounds_on.specs.Passing.{PassedOn, pass-stop, pass-on}
 
 -- THE END, of a window: what the rule leaves, with a window at rest that a set shows
-pub record RoundsEnd (w : Window) (s : List ℕ) (at : ℕ) (old : List ℕ) (from : ℕ) (line : Line) (i j : ℕ) (new : List ℕ) (next : ℕ) (st : State) : Type 0 where
+pub record RoundsEnd (T : Table) (w : Window) (s : List ℕ) (at : ℕ) (old : List ℕ) (from : ℕ) (line : Line) (i j : ℕ) (new : List ℕ) (next : ℕ) (st : State) : Type 0 where
   pub window : Window
-  pub leaves : roundsReturned line window i j new ≡ roundsLeave base s w at old from
+  pub leaves : roundsReturned line window i j new ≡ roundsLeave T s w at old from
   pub shape : window .shape ≡ w .shape
   pub next-is : window .next ≡ next
   pub measured : window .measured ≡ w .measured
-  pub kept : Kept base window
+  pub kept : Kept T window
   pub rest : isRest (window .stage) ≡ true
-  pub shows : Shows base window st
+  pub shows : Shows T window st
 
 -- for every window that was held
 abbrev pub RoundsOn : Plan → Shape → ℕ → State → Bool → ℕ → (ℕ → ℕ) → List ℕ → ℕ → List ℕ → ℕ → Line → ℕ → ℕ → List ℕ → ℕ → State → Type 0
 RoundsOn P sh next₀ st₀ rides₀ count₀ list₀ s at old from line i j new next st =
-    (w : Window) → w .shape ≡ sh → w .next ≡ next₀ → Held base P w st₀ rides₀ count₀ list₀ → RoundsEnd w s at old from line i j new next st
+    (w : Window) → w .shape ≡ sh → w .next ≡ next₀ → Held (ofModel (sh .model)) P w st₀ rides₀ count₀ list₀ → RoundsEnd (ofModel (sh .model)) w s at old from line i j new next st
 
 -- BETWEEN TWO RECORDS, of a window: the rounds left give the whole
-record Along (P : Plan) (w : Window) (s : List ℕ) (at : ℕ) (old : List ℕ) (from i : ℕ) (out : List ℕ) (j next : ℕ) (st : State) (rides : Bool) (count : ℕ) (list : ℕ → ℕ) : Type 0 where
+record Along (T : Table) (P : Plan) (w : Window) (s : List ℕ) (at : ℕ) (old : List ℕ) (from i : ℕ) (out : List ℕ) (j next : ℕ) (st : State) (rides : Bool) (count : ℕ) (list : ℕ → ℕ) : Type 0 where
   window : Window
-  same : roundsLeave base s w at old from ≡ roundsLeave base s window i out j
+  same : roundsLeave T s w at old from ≡ roundsLeave T s window i out j
   shape : window .shape ≡ w .shape
   next-is : window .next ≡ next
   measured : window .measured ≡ w .measured
-  held : Held base P window st rides count list
+  held : Held T P window st rides count list
 
 -- for every window that was held; the arrays are ready for the next one
 pub record Between (sh : Shape) (z : Sizes) (next₀ : ℕ) (st₀ : State) (rides₀ : Bool) (count₀ : ℕ) (list₀ : ℕ → ℕ) (s : List ℕ) (at : ℕ) (old : List ℕ) (from : ℕ)
     (i : ℕ) (out : List ℕ) (j next : ℕ) (rides : Bool) (count : ℕ) (nodes marks edges other-nodes other-marks other-edges table lists : List ℕ) (queued : List Bool) (words : List ℕ) : Type 0 where
   pub ready : Ready sh z next rides count nodes marks edges other-nodes other-marks other-edges table lists queued words
   pub size : length out ≡ length old
-  each : (w : Window) → w .shape ≡ sh → w .next ≡ next₀ → Held base (planOf z table) w st₀ rides₀ count₀ list₀
-      → Along (planOf z table) w s at old from i out j next (stateOf nodes marks edges) rides count (liveAt lists)
+  each : (w : Window) → w .shape ≡ sh → w .next ≡ next₀ → Held (ofModel (sh .model)) (planOf z table) w st₀ rides₀ count₀ list₀
+      → Along (ofModel (sh .model)) (planOf z table) w s at old from i out j next (stateOf nodes marks edges) rides count (liveAt lists)
 
 module _ (sh : Shape) (z : Sizes) (table : List ℕ) where
   abbrev P : Plan
@@ -63,9 +64,9 @@ module _ (sh : Shape) (z : Sizes) (table : List ℕ) where
 
   -- margins of a set that shows a window hold no edge
   held-outside : (next : ℕ) (nodes marks edges : List ℕ) (rides : Bool) (count : ℕ) (list : ℕ → ℕ) → HeldAt (planOf z table) sh next (stateOf nodes marks edges) rides count list
-      → NoneOutside base (sh .height) (sh .distance) edges
+      → NoneOutside (ofModel (sh .model)) (sh .height) (sh .distance) edges
   held-outside next nodes marks edges rides count list h =
-      subst (λ (o : Shape). NoneOutside base (o .height) (o .distance) edges) (h .1) (h .3 .shows .margins)
+      subst (λ (o : Shape). NoneOutside (ofModel (sh .model)) (o .height) (o .distance) edges) (h .1) (h .3 .shows .margins)
 
   pub begins : (next : ℕ) (rides : Bool) (count : ℕ) (s : List ℕ) (at : ℕ) (old : List ℕ) (from : ℕ) (nodes marks edges other-nodes other-marks other-edges lists : List ℕ) (queued : List Bool) (words : List ℕ)
       → Ready sh z next rides count nodes marks edges other-nodes other-marks other-edges table lists queued words
@@ -85,7 +86,7 @@ module _ (sh : Shape) (z : Sizes) (table : List ℕ) where
         let r = R .each (v .window) (v .shape ∙ a) (v .next-is) (v .held) in
         record {
           window = v .window;
-          leaves = pass-stop s (v .window) i out j answer (r .window) new (r .leaves) l k ∙ sym (v .same);
+          leaves = pass-stop (ofModel (sh .model)) s (v .window) i out j answer (r .window) new (r .leaves) l k ∙ sym (v .same);
           shape = v .shape;
           next-is = v .next-is;
           measured = v .measured;
@@ -99,8 +100,8 @@ module _ (sh : Shape) (z : Sizes) (table : List ℕ) where
       abbrev held : HeldAt P sh next (stateOf nodes marks edges) rides count (liveAt lists)
       held = B .ready .held
 
-      passed-on : PassedOn s (held .0) i out j (R .each (held .0) (held .1) (held .2) (held .3) .window) i' new j'
-      passed-on = let r = R .each (held .0) (held .1) (held .2) (held .3) in pass-on s (held .0) i out j answer (r .window) new (r .leaves) b i' j' k
+      passed-on : PassedOn (ofModel (sh .model)) s (held .0) i out j (R .each (held .0) (held .1) (held .2) (held .3) .window) i' new j'
+      passed-on = let r = R .each (held .0) (held .1) (held .2) (held .3) in pass-on (ofModel (sh .model)) s (held .0) i out j answer (r .window) new (r .leaves) b i' j' k
 
       pub goes-forward : i < i'
       goes-forward = passed-on .forward
@@ -108,15 +109,15 @@ module _ (sh : Shape) (z : Sizes) (table : List ℕ) where
       pub goes-inside : i' ≤ length s
       goes-inside = passed-on .inside
 
-      held-in : (v : Window) → Held base P v (stateOf new-nodes new-marks new-edges) rides count' (liveAt lists') → Held base P v (stateOf new-nodes new-marks new-edges) rides' count' (liveAt lists')
+      held-in : (v : Window) → Held (ofModel (sh .model)) P v (stateOf new-nodes new-marks new-edges) rides count' (liveAt lists') → Held (ofModel (sh .model)) P v (stateOf new-nodes new-marks new-edges) rides' count' (liveAt lists')
       held-in v H = rw (R .same) H
 
-      after : (w : Window) → w .shape ≡ sh → w .next ≡ next₀ → Held base P w st₀ rides₀ count₀ list₀
-          → Along P w s at old from i' new j' next' (stateOf new-nodes new-marks new-edges) rides' count' (liveAt lists')
+      after : (w : Window) → w .shape ≡ sh → w .next ≡ next₀ → Held (ofModel (sh .model)) P w st₀ rides₀ count₀ list₀
+          → Along (ofModel (sh .model)) P w s at old from i' new j' next' (stateOf new-nodes new-marks new-edges) rides' count' (liveAt lists')
       after w a n H =
           let v = B .each w a n H in
           let r = R .each (v .window) (v .shape ∙ a) (v .next-is) (v .held) in
-          let o = pass-on s (v .window) i out j answer (r .window) new (r .leaves) b i' j' k in
+          let o = pass-on (ofModel (sh .model)) s (v .window) i out j answer (r .window) new (r .leaves) b i' j' k in
           let h = r .held i' j' k in
           record {
             window = r .window;
@@ -135,6 +136,7 @@ module _ (sh : Shape) (z : Sizes) (table : List ℕ) where
           record {
             ready = record {
               range = m .range;
+              model = m .model;
               sizes = m .sizes;
               filled = m .filled;
               long = R .long;

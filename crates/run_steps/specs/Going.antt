@@ -10,8 +10,8 @@ use lib.ListN.{length, getD}
 use Rattle.refusal.specs.Laws.{undone}
 use Rattle.shape.specs.Sizes.{nodesOf}
 use Rattle.shape.specs.declared.Shape.{Shape}
-use Rattle.steps.specs.Steps.{base}
-use Rattle.steps.specs.Models.{suited-base}
+use Rattle.steps.specs.Steps.{Table}
+use Rattle.steps.specs.Suited.{Suited}
 use Rattle.window.specs.Run.{stepsFrom}
 use Rattle.window.specs.Window.{size}
 use Rattle.window.specs.declared.Window.{Window}
@@ -29,17 +29,18 @@ use Rattle.shows.specs.Pass.{Going}
 use Rattle.shows.specs.Run.{Underway, Over, run-starts, run-spent, run-rests, run-goes}
 use Rattle.run_steps.specs.Inside.{open-inside}
 
--- some window of n nodes is shown, with a list that covers
+-- some window of n nodes is shown, by some table, with a list that covers
 abbrev pub Shown : Plan → ℕ → State → Bool → ℕ → (ℕ → ℕ) → Type 0
-Shown P n st rides count list = (w : Window) × (size w ≡ n) × Going base P w st rides count list
+Shown P n st rides count list = (T : Table) × Suited T × (w : Window) × (size w ≡ n) × Going T P w st rides count list
 
--- whatever window was shown with what is live in it
-abbrev pub Each : Plan → ℕ → State → Bool → ℕ → (ℕ → ℕ) → ((ℕ → Bool) → Window → Type 0) → Type 0
-Each P n st rides count list A = (w : Window) → size w ≡ n → Going base P w st rides count list → (listed : ℕ → Bool) → (rides ≡ true → Live base w listed) → A listed w
+-- whatever window was shown, by whatever table, with what is live in it
+abbrev pub Each : Plan → ℕ → State → Bool → ℕ → (ℕ → ℕ) → (Table → (ℕ → Bool) → Window → Type 0) → Type 0
+Each P n st rides count list A =
+    (T : Table) → Suited T → (w : Window) → size w ≡ n → Going T P w st rides count list → (listed : ℕ → Bool) → (rides ≡ true → Live T w listed) → A T listed w
 
 -- THE RUN IS OVER
 abbrev pub Ended : Plan → ℕ → ℕ → State → Bool → ℕ → (ℕ → ℕ) → Bool → ℕ → State → Type 0
-Ended P n budget st rides count list rest made st' = Each P n st rides count list (λ listed w. Over base P budget (stepsFrom base budget 0 w) rides listed w rest made st')
+Ended P n budget st rides count list rest made st' = Each P n st rides count list (λ T listed w. Over T P budget (stepsFrom T budget 0 w) rides listed w rest made st')
 
 -- a work list stands at 0 or at 4,608, and the next one at the other
 abbrev pub Half : ℕ → Type 0
@@ -52,7 +53,7 @@ pub record Middle (P : Plan) (n budget : ℕ) (st₀ : State) (rides : Bool) (co
   pub half : Half from
   pub queue : Queue from count lists queued
   pub kept : (i : ℕ) → 9216 ≤ i → getD lists i 0 ≡ getD old i 0
-  pub each : Each P n st₀ rides count₀ list₀ (λ listed w. Underway base P budget (stepsFrom base budget 0 w) rides listed w made (stateOf nodes marks edges) count (listAt lists from))
+  pub each : Each P n st₀ rides count₀ list₀ (λ T listed w. Underway T P budget (stepsFrom T budget 0 w) rides listed w made (stateOf nodes marks edges) count (listAt lists from))
 
 module _ (P : Plan) (n budget : ℕ) (rides : Bool) where
   abbrev nodesIn : Shape → ℕ
@@ -60,22 +61,22 @@ module _ (P : Plan) (n budget : ℕ) (rides : Bool) where
 
   -- some window is shown between two steps, too
   pub still-shown : (st₀ : State) (count₀ : ℕ) (list₀ : ℕ → ℕ) → Shown P n st₀ rides count₀ list₀ → (made count : ℕ) (st : State) (list : ℕ → ℕ)
-      → Each P n st₀ rides count₀ list₀ (λ listed w. Underway base P budget (stepsFrom base budget 0 w) rides listed w made st count list) → Shown P n st rides count list
+      → Each P n st₀ rides count₀ list₀ (λ T listed w. Underway T P budget (stepsFrom T budget 0 w) rides listed w made st count list) → Shown P n st rides count list
   still-shown st₀ count₀ list₀ s made count st list u =
-      let v = u (s .0) (s .1) (s .2) (λ g. true) (λ t g l f. absurd (undone f)) in
-      (v .window, ap nodesIn (v .shape) ∙ s .1, v .going)
+      let v = u (s .0) (s .1) (s .2) (s .3) (s .4) (λ g. true) (λ t g l f. absurd (undone f)) in
+      (s .0, s .1, v .window, ap nodesIn (v .shape) ∙ s .3, v .going)
 
   module _ (st : State) (count : ℕ) (list : ℕ → ℕ) (s : Shown P n st rides count list) where
     pub shown-places : Places n count list
-    shown-places = subst (λ (m : ℕ). Places m count list) (s .1) (s .2 .places)
+    shown-places = subst (λ (m : ℕ). Places m count list) (s .3) (s .4 .places)
 
     -- also by another account of the same growth
     pub shown-inside : (growth : ℕ → ℕ) → ((e : ℕ) → growth e ≡ st .growth e) → (dirs : ℕ) → P .dirs ≡ dirs → (i : ℕ) → i < count → Inside P growth (list i) dirs n
     shown-inside growth e dirs d i l k m o =
-        let G = s .2 in
+        let G = s .4 in
         let m' : k < P .dirs = omega arith in
-        let r = open-inside base suited-base P (s .0) st (G .kept) (G .planned) (G .shows) (list i) (G .places i l) k m' (ap (λ (v : ℕ). eqb v 2) (sym (e (overBy (list i) (P .slot k)))) ∙ o) in
-        subst (λ (m : ℕ). within m (overBy (list i) (P .off k)) ≡ true) (s .1) r
+        let r = open-inside (s .0) (s .1) P (s .2) st (G .kept) (G .planned) (G .shows) (list i) (G .places i l) k m' (ap (λ (v : ℕ). eqb v 2) (sym (e (overBy (list i) (P .slot k)))) ∙ o) in
+        subst (λ (m : ℕ). within m (overBy (list i) (P .off k)) ≡ true) (s .3) r
 
 -- a run stopped, with its last list on the queue
 pub record Stopped (P : Plan) (n budget : ℕ) (st₀ : State) (rides : Bool) (count₀ : ℕ) (list₀ : ℕ → ℕ) (old : List ℕ) (rest : Bool) (made from count : ℕ)
@@ -119,7 +120,7 @@ module _ (P : Plan) (n budget : ℕ) (rides : Bool) (st₀ : State) (count₀ : 
         half = inl refl;
         queue = q;
         kept = λ i l. refl;
-        each = λ w a G listed live. rw (← e, ← f) (run-starts base P budget (stepsFrom base budget 0 w) rides listed w st₀ count₀ list₀ G live refl);
+        each = λ T S w a G listed live. rw (← e, ← f) (run-starts T P budget (stepsFrom T budget 0 w) rides listed w st₀ count₀ list₀ G live refl);
       }
 
   module _ (s : Shown P n st₀ rides count₀ list₀) (made from count : ℕ) (nodes marks edges words lists : List ℕ) (queued : List Bool)
@@ -145,7 +146,7 @@ module _ (P : Plan) (n budget : ℕ) (rides : Bool) (st₀ : State) (count₀ : 
           queue = M .queue;
           places = now-places;
           kept = M .kept;
-          ended = λ w a G listed live. run-spent base P budget (stepsFrom base budget 0 w) rides listed w made st count list (M .each w a G listed live) l;
+          ended = λ T S w a G listed live. run-spent T P budget (stepsFrom T budget 0 w) rides listed w made st count list (M .each T S w a G listed live) l;
         }
 
     -- ONE STEP
@@ -164,8 +165,8 @@ module _ (P : Plan) (n budget : ℕ) (rides : Bool) (st₀ : State) (count₀ : 
             queue = M .queue;
             places = now-places;
             kept = M .kept;
-            ended = λ w a G listed live.
-                run-rests base P budget (stepsFrom base budget 0 w) rides listed w suited-base made st count list (M .each w a G listed live) l st' (passed-in w a) (sym (L .is-busy) ∙ b);
+            ended = λ T S w a G listed live.
+                run-rests T P budget (stepsFrom T budget 0 w) rides listed w S made st count list (M .each T S w a G listed live) l st' (passed-in w a) (sym (L .is-busy) ∙ b);
           }
 
       pub goes-same : busy ≡ true → rides ≡ false → Middle P n budget st₀ rides count₀ list₀ old (made + 1) from count nodes' marks' edges' words' lists queued
@@ -175,8 +176,8 @@ module _ (P : Plan) (n budget : ℕ) (rides : Bool) (st₀ : State) (count₀ : 
             half = M .half;
             queue = M .queue;
             kept = M .kept;
-            each = λ w a G listed live.
-                run-goes base P budget (stepsFrom base budget 0 w) rides listed w suited-base made st count list (M .each w a G listed live) l st' (passed-in w a) count list
+            each = λ T S w a G listed live.
+                run-goes T P budget (stepsFrom T budget 0 w) rides listed w S made st count list (M .each T S w a G listed live) l st' (passed-in w a) count list
                 (λ t. absurd (undone (sym t ∙ f))) (λ t. (refl, λ i h. refl)) (sym (L .is-busy) ∙ b);
           }
 
@@ -194,8 +195,8 @@ module _ (P : Plan) (n budget : ℕ) (rides : Bool) (st₀ : State) (count₀ : 
             half = subst Half (sym e) (half-other from (M .half));
             queue = N .queue;
             kept = λ i j. N .extends .behind i (omega arith) ∙ M .kept i j;
-            each = λ w a G listed live.
-                run-goes base P budget (stepsFrom base budget 0 w) rides listed w suited-base made st count list (M .each w a G listed live) l st' (passed-in w a) more (listAt lists' to)
+            each = λ T S w a G listed live.
+                run-goes T P budget (stepsFrom T budget 0 w) rides listed w S made st count list (M .each T S w a G listed live) l st' (passed-in w a) more (listAt lists' to)
                 (λ r.
                 subst (λ (m : ℕ). Follows P st count list m more (listAt lists' to)) (sym a)
                 (follows P (λ e. growthOf (getD edges' e 0)) n list (λ i. stirIn (getD words' i 0)) to lists st count more lists' queued' N (λ e. L .passed .growth e) (L .stirring)))

@@ -12,10 +12,10 @@ use Rattle.shape.specs.Ranges.{halves}
 use Rattle.shape.specs.Sizes.{heightOk, distanceOk}
 use Rattle.shape.specs.declared.Shape.{Shape}
 use Rattle.record.specs.Calls.{roundAnswer, resultAnswer, placeTests, defectsTest, edgesTest, escapesTest, readRound, readResult, ResultBuffered, resultBuffered, readIntoBoth, stepsOf}
-use Rattle.record.specs.Records.{Result}
+use Rattle.record.specs.Records.{IsShape, Result}
 use Rattle.record.specs.declared.ResultRead.{ResultRead}
 use Rattle.record.specs.declared.RoundRead.{RoundRead}
-use Rattle.trip.specs.Fits.{InRange, detectorsIn, edgesIn}
+use Rattle.trip.specs.Fits.{detectorsIn, edgesIn}
 use Rattle.trip.specs.Streams.{roundOf, resultOf}
 
 steps-passed : (a : Answer Result) → withoutValue (stepsOf a) ≡ withoutValue a
@@ -24,11 +24,11 @@ steps-passed ended = refl
 steps-passed (refused e) = refl
 steps-passed (refusedAt e o) = refl
 
-module _ (s : List ℕ) (sh : Shape) (at : ℕ) (range : InRange sh) (inside : at ≤ length s) where
+module _ (s : List ℕ) (sh : Shape) (at : ℕ) (range : IsShape sh) (inside : at ≤ length s) where
   round-passes : (old : List ℕ) → length old ≡ detectorsIn sh → Passes (placeTests sh (length s) at ++ (defectsTest sh old ∷ []))
   round-passes old size A a =
-      let p = halves (heightOk (sh .height)) (distanceOk (sh .distance)) range in
-      rw (p .0, p .1, le-leb at (length s) inside, eq-eqb (length old) (detectorsIn sh) size) refl
+      let p = halves (heightOk (sh .height)) (distanceOk (sh .distance)) (range .sizes) in
+      rw (p .0, p .1, range .model, le-leb at (length s) inside, eq-eqb (length old) (detectorsIn sh) size) refl
 
   pub round-passed : (r : RoundRead) (old new : List ℕ) → length old ≡ detectorsIn sh → buffered (roundAnswer r) new ≡ readRound sh s at old
       → roundAnswer r ≡ withoutValue (roundOf s sh at)
@@ -38,8 +38,8 @@ module _ (s : List ℕ) (sh : Shape) (at : ℕ) (range : InRange sh) (inside : a
   result-passes : (edges escapes : List ℕ) → length edges ≡ edgesIn sh → length escapes ≡ detectorsIn sh
       → Passes (placeTests sh (length s) at ++ (edgesTest sh edges ∷ escapesTest sh escapes ∷ []))
   result-passes edges escapes few size A a =
-      let p = halves (heightOk (sh .height)) (distanceOk (sh .distance)) range in
-      rw (p .0, p .1, le-leb at (length s) inside, eq-eqb (length edges) (edgesIn sh) few, eq-eqb (length escapes) (detectorsIn sh) size) refl
+      let p = halves (heightOk (sh .height)) (distanceOk (sh .distance)) (range .sizes) in
+      rw (p .0, p .1, range .model, le-leb at (length s) inside, eq-eqb (length edges) (edgesIn sh) few, eq-eqb (length escapes) (detectorsIn sh) size) refl
 
   pub result-passed : (r : ResultRead) (edges escapes edges′ escapes′ : List ℕ) → length edges ≡ edgesIn sh → length escapes ≡ detectorsIn sh
       → resultBuffered (resultAnswer r) edges′ escapes′ ≡ readResult sh s at edges escapes

@@ -11,11 +11,10 @@ use Rattle.refusal.specs.Bytes.{Bytes}
 use Rattle.refusal.specs.Laws.{turned-next}
 use Rattle.refusal.specs.declared.Refusal.{Refusal}
 use Rattle.shape.specs.declared.Shape.{Shape}
-use Rattle.record.specs.Records.{headerAt}
+use Rattle.record.specs.Records.{IsShape, headerAt}
 use Rattle.record.specs.Calls.{headerAnswer}
 use Rattle.record.specs.declared.HeaderRead.{HeaderRead}
 use Rattle.record.specs.declared.HeaderRead.the-variants as headerRead
-use Rattle.trip.specs.Fits.{InRange}
 use Rattle.scan.specs.Scanned.{streamAnswer, passedBy, scannedBy, opening, goesOn, ahead}
 use Rattle.scan.specs.LawsScanned.{counts}
 use Rattle.scan.specs.declared.Round.{Round}
@@ -24,7 +23,7 @@ use Rattle.scan.specs.declared.StreamRead.the-variants.{Rounds, Refused}
 
 -- rounds were read by a shape in range, of a byte at least each
 abbrev pub Counted : StreamRead → ℕ → Type 0
-Counted (Rounds sh n) at = InRange sh × (n ≤ at)
+Counted (Rounds sh n) at = IsShape sh × (n ≤ at)
 Counted (Refused f) at = Unit {0}
 
 -- so much has been read, and the next round stands at an offset

@@ -4,7 +4,7 @@ ghost use mathlib.Core.Bool.{true};
 ghost use Prim.Native.Nat.{_-_, _≤_};
 ghost use lib.ListN.{length};
 ghost use Rattle.refusal.specs.Answer.{withoutValue};
-ghost use Rattle.shape.specs.Sizes.{inRange};
+ghost use Rattle.record.specs.Records.{IsShape};
 ghost use Rattle.record.specs.Calls.{roundAnswer};
 ghost use Rattle.trip.specs.Streams.{roundOf, resultOf};
 ghost use Rattle.scan.specs.Scanned.{passedBy, opening, goesOn};
@@ -37,7 +37,7 @@ pub enum Round {
 
 // Passes the round of the input at an offset: nothing of it is kept.
 fn pass_input(shape: Shape, src: &[u8], at: usize) -> RoundRead
-    requires { ⌜ inRange (shape .height) (shape .distance) ≡ true ⌝ }
+    requires { ⌜ IsShape shape ⌝ }
     requires { ⌜ at ≤ length (now src) ⌝ }
     ensures { λ r. ⌜ roundAnswer r ≡ withoutValue (roundOf (now (src .entry)) shape at) ⌝ }
 {
@@ -48,7 +48,7 @@ fn pass_input(shape: Shape, src: &[u8], at: usize) -> RoundRead
 
 // Passes the round of the result at an offset.
 fn pass_result(shape: Shape, src: &[u8], at: usize) -> RoundRead
-    requires { ⌜ inRange (shape .height) (shape .distance) ≡ true ⌝ }
+    requires { ⌜ IsShape shape ⌝ }
     requires { ⌜ at ≤ length (now src) ⌝ }
     ensures { λ r. ⌜ roundAnswer r ≡ withoutValue (resultOf (now (src .entry)) shape at) ⌝ }
 {
@@ -71,7 +71,7 @@ fn pass_result(shape: Shape, src: &[u8], at: usize) -> RoundRead
 
 // Passes the round of a kind at an offset.
 fn pass(round: Round, shape: Shape, src: &[u8], at: usize) -> RoundRead
-    requires { ⌜ inRange (shape .height) (shape .distance) ≡ true ⌝ }
+    requires { ⌜ IsShape shape ⌝ }
     requires { ⌜ at ≤ length (now src) ⌝ }
     ensures { λ r. ⌜ roundAnswer r ≡ passedBy round (now (src .entry)) shape at ⌝ }
 {

@@ -17,8 +17,8 @@ use window::Stage;
 use window::Window;
 ghost use mathlib.Core.Path.{_≡_};
 ghost use mathlib.Core.Bool.{true};
-ghost use Rattle.shape.specs.Sizes.{inRange};
-ghost use Rattle.steps.specs.Steps.{base};
+ghost use Rattle.record.specs.Records.{IsShape};
+ghost use Rattle.steps.specs.Models.{ofModel};
 ghost use Rattle.window.specs.Formed.{wellFormed};
 ghost use Rattle.window.specs.Fresh.{freshWindow};
 ghost use Rattle.window.specs.Window.{isRest};
@@ -27,8 +27,8 @@ ghost use Rattle.session.specs.Ends.{Ends};
 
 // Decodes round after round of a shape's fresh window.
 fn decode_fresh(shape: Shape, src: &[u8], at: usize, out: &mut [u8], to: usize) -> Rounds
-    requires { ⌜ inRange (shape .height) (shape .distance) ≡ true ⌝ }
-    ensures { λ r. ⌜ Ends (freshWindow base shape) (now (src .entry)) at (now (out .entry)) to (lineOf (r .ending)) (r .at) (r .to) (now (out .exit)) ⌝ }
+    requires { ⌜ IsShape shape ⌝ }
+    ensures { λ r. ⌜ Ends (ofModel (shape .model)) (freshWindow (ofModel (shape .model)) shape) (now (src .entry)) at (now (out .entry)) to (lineOf (r .ending)) (r .at) (r .to) (now (out .exit)) ⌝ }
 {
     let z = plan::sizes(shape);
     let mut table = [0; TABLE];
@@ -71,9 +71,9 @@ fn decode_fresh(shape: Shape, src: &[u8], at: usize, out: &mut [u8], to: usize) 
 
 // Decodes round after round of a well-formed window at rest. All its nodes are taken for live.
 fn decode_resting(w: Window, src: &[u8], at: usize, out: &mut [u8], to: usize) -> RoundsGiven
-    requires { ⌜ wellFormed base w ≡ true ⌝ }
+    requires { ⌜ wellFormed (ofModel (w .shape .model)) w ≡ true ⌝ }
     requires { ⌜ isRest (w .stage) ≡ true ⌝ }
-    ensures { λ r. ⌜ roundsReturned (lineOf (r .ending)) (r .window) (r .at) (r .to) (now (out .exit)) ≡ roundsLeave base (now (src .entry)) w at (now (out .entry)) to ⌝ }
+    ensures { λ r. ⌜ roundsReturned (lineOf (r .ending)) (r .window) (r .at) (r .to) (now (out .exit)) ≡ roundsLeave (ofModel (w .shape .model)) (now (src .entry)) w at (now (out .entry)) to ⌝ }
 {
     let shape = w.shape;
     let z = plan::sizes(shape);
@@ -145,7 +145,7 @@ fn decode_resting(w: Window, src: &[u8], at: usize, out: &mut [u8], to: usize) -
 
 // Decodes round after round from an offset on, and writes their records from an offset on. The window is tested once.
 pub fn decode_rounds(w: Window, src: &[u8], at: usize, out: &mut [u8], to: usize) -> RoundsGiven
-    ensures { λ r. ⌜ roundsReturned (lineOf (r .ending)) (r .window) (r .at) (r .to) (now (out .exit)) ≡ roundsLeave base (now (src .entry)) w at (now (out .entry)) to ⌝ }
+    ensures { λ r. ⌜ roundsReturned (lineOf (r .ending)) (r .window) (r .at) (r .to) (now (out .exit)) ≡ roundsLeave (ofModel (w .shape .model)) (now (src .entry)) w at (now (out .entry)) to ⌝ }
 {
     if !formed::well_formed(w) {
         return RoundsGiven {
@@ -169,7 +169,7 @@ pub fn decode_rounds(w: Window, src: &[u8], at: usize, out: &mut [u8], to: usize
 
 // Decodes a whole stream: the header and the rounds, written from the buffer's front on.
 pub fn decode(src: &[u8], out: &mut [u8]) -> DecodeGiven
-    ensures { λ r. ⌜ decodeReturned (lineOf (r .ending)) (r .count) (now (out .exit)) ≡ decodeLeaves base (now (src .entry)) (now (out .entry)) ⌝ }
+    ensures { λ r. ⌜ decodeReturned (lineOf (r .ending)) (r .count) (now (out .exit)) ≡ decodeLeaves (now (src .entry)) (now (out .entry)) ⌝ }
 {
     match record::read_header(src, 0) {
         HeaderRead::Refused(f) => DecodeGiven {

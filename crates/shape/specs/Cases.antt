@@ -1,38 +1,35 @@
 -- The definitions that go by tests, at each outcome of the tests. Assumes nothing.
 use Prim.Native.Nat.{ℕ, _-_, _≤_, _<_}
-use mathlib.Core.Path.{_≡_, refl}
+use mathlib.Core.Path.{_≡_, sym, ap, _∙_}
 use mathlib.Core.Bool.{Bool, true, false}
 use mathlib.Core.List.{[], _∷_}
 use borrow.Author.Tests.{lt-ltb, le-ltb}
 use Rattle.refusal.specs.Answer.{Answer, refused, unless}
 use Rattle.shape.specs.Choice.{if-true, if-false}
-use Rattle.shape.specs.Sizes.{heightOk, distanceOk, shapeTests, boundary}
+use Rattle.shape.specs.Sizes.{heightOk, distanceOk, modelOk, shapeTests, boundary}
 use Rattle.shape.specs.Nodes.{numberOf, boundaryNumber, detectorNumber, placeIn, placeOf, boundaryNodes, sided, inner}
 use Rattle.shape.specs.declared.Place.{Place}
 
-module _ {A : Type 0} (h d : ℕ) (a : Answer A) where
-  first : (x y : Bool) → x ≡ false → refused 1 ≡ unless ((x, 1) ∷ (y, 2) ∷ []) a
-  first false y e = refl
-  first true y e = cc
+module _ {A : Type 0} (h d m : ℕ) (a : Answer A) where
+  pub no-height : heightOk h ≡ false → refused 1 ≡ unless (shapeTests h d m) a
+  no-height e = sym (ap (λ (x : Bool). unless ((x, 1) ∷ (distanceOk d, 2) ∷ (modelOk m, 31) ∷ []) a) e)
 
-  second : (x y : Bool) → x ≡ true → y ≡ false → refused 2 ≡ unless ((x, 1) ∷ (y, 2) ∷ []) a
-  second true false e f = refl
-  second true true e f = cc
-  second false y e f = cc
+  pub no-distance : heightOk h ≡ true → distanceOk d ≡ false → refused 2 ≡ unless (shapeTests h d m) a
+  no-distance e f =
+      sym (ap (λ (x : Bool). unless ((x, 1) ∷ (distanceOk d, 2) ∷ (modelOk m, 31) ∷ []) a) e
+      ∙ ap (λ (x : Bool). unless ((true, 1) ∷ (x, 2) ∷ (modelOk m, 31) ∷ []) a) f)
 
-  neither : (x y : Bool) → x ≡ true → y ≡ true → a ≡ unless ((x, 1) ∷ (y, 2) ∷ []) a
-  neither true true e f = refl
-  neither true false e f = cc
-  neither false y e f = cc
+  in-both : heightOk h ≡ true → distanceOk d ≡ true → (x : Bool) → modelOk m ≡ x → unless (shapeTests h d m) a ≡ unless ((x, 31) ∷ []) a
+  in-both e f x g =
+      ap (λ (x : Bool). unless ((x, 1) ∷ (distanceOk d, 2) ∷ (modelOk m, 31) ∷ []) a) e
+      ∙ ap (λ (x : Bool). unless ((x, 2) ∷ (modelOk m, 31) ∷ []) a) f
+      ∙ ap (λ (x : Bool). unless ((x, 31) ∷ []) a) g
 
-  pub no-height : heightOk h ≡ false → refused 1 ≡ unless (shapeTests h d) a
-  no-height e = first (heightOk h) (distanceOk d) e
+  pub no-model : heightOk h ≡ true → distanceOk d ≡ true → modelOk m ≡ false → refused 31 ≡ unless (shapeTests h d m) a
+  no-model e f g = sym (in-both e f false g)
 
-  pub no-distance : heightOk h ≡ true → distanceOk d ≡ false → refused 2 ≡ unless (shapeTests h d) a
-  no-distance e f = second (heightOk h) (distanceOk d) e f
-
-  pub fine : heightOk h ≡ true → distanceOk d ≡ true → a ≡ unless (shapeTests h d) a
-  fine e f = neither (heightOk h) (distanceOk d) e f
+  pub fine : heightOk h ≡ true → distanceOk d ≡ true → modelOk m ≡ true → a ≡ unless (shapeTests h d m) a
+  fine e f g = sym (in-both e f true g)
 
 module _ (h d : ℕ) (q : Place) where
   pub number-side : boundary d (q .column) ≡ true → numberOf h d q ≡ boundaryNumber h q

@@ -17,11 +17,16 @@ pub const MAX_DETECTORS: usize = MAX_HEIGHT * (MAX_DISTANCE - 1);
 
 pub const MAX_LAYER_EDGES: usize = MAX_HEIGHT * MAX_DISTANCE
     + (MAX_HEIGHT - 1) * (MAX_DISTANCE - 1)
-    + MAX_DETECTORS;
+    + MAX_DETECTORS
+    + (MAX_HEIGHT - 1) * (MAX_DISTANCE - 1)
+    + MAX_HEIGHT * (MAX_DISTANCE - 2)
+    + (MAX_HEIGHT - 1) * (MAX_DISTANCE - 2);
 
+// The noise model is 0, or 1 for circuit-level noise with its diagonals.
 pub struct Shape {
     pub height: u8,
     pub distance: u8,
+    pub model: u8,
 }
 
 pub enum Shaped {

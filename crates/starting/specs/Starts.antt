@@ -6,10 +6,10 @@ use mathlib.Core.Path.{_≡_, refl, sym, _∙_, ap, subst}
 use mathlib.Core.Bool.{Bool, true, false}
 use mathlib.Core.List.{List}
 use lib.ListN.{length, getD, replicate, length-replicate, getD-replicate}
-use Rattle.shape.specs.Sizes.{inRange, nodesOf, sheetsOf}
+use Rattle.shape.specs.Sizes.{inRange, modelOk, nodesOf, sheetsOf}
 use Rattle.shape.specs.declared.Shape.{Shape}
-use Rattle.steps.specs.Steps.{base}
-use Rattle.steps.specs.Models.{suited-base}
+use Rattle.steps.specs.Steps.{Table}
+use Rattle.steps.specs.Models.{ofModel, suited-model}
 use Rattle.window.specs.Fresh.{freshWindow}
 use Rattle.window.specs.LawsLists.{getD-same}
 use Rattle.window.specs.Lists.{every}
@@ -46,21 +46,21 @@ long-made = record { of-nodes = nodes-long; of-marks = nodes-long; of-edges = le
 pub scratch-made : (lists : List ℕ) → length lists ≡ 13824 → Scratch lists (replicate 4608 false) (replicate {A = ℕ} 4608 0)
 scratch-made lists l = record { lists-long = l; empty = record { wide = length-replicate 4608 false; none = λ x. getD-same false 4608 x }; words-long = nodes-long }
 
-module _ (h d : ℕ) (table : List ℕ) (F : Filled base h d table) where
-  pub safe-made : (z : Sizes) → z ≡ sizesOf base h d → Safe z table
+module _ (T : Table) (h d : ℕ) (table : List ℕ) (F : Filled T h d table) where
+  pub safe-made : (z : Sizes) → z ≡ sizesOf T h d → Safe z table
   safe-made z e = subst (λ (y : Sizes). Safe y table) (sym e) (F .safe)
 
-  cell-low : (kind x : ℕ) → kind < base .kinds → x < plane → cell kind x < 27648
+  cell-low : (kind x : ℕ) → kind < T .kinds → x < plane → cell kind x < 27648
   cell-low kind x k l =
       let m = F .safe .kinds in
       let a : kind ≤ 5 = omega arith in
       let n = mul-le-mul-right plane a in
       omega arith
 
-  no-edge : (kind x : ℕ) → kind < base .kinds → x < plane → getD (replicate {A = ℕ} 27648 3) (cell kind x) 0 ≡ 3
+  no-edge : (kind x : ℕ) → kind < T .kinds → x < plane → getD (replicate {A = ℕ} 27648 3) (cell kind x) 0 ≡ 3
   no-edge kind x k l = getD-replicate {A = ℕ} 27648 (cell kind x) 3 0 (cell-low kind x k l)
 
-  pub none-made : NoneOutside base h d (replicate {A = ℕ} 27648 3)
+  pub none-made : NoneOutside T h d (replicate {A = ℕ} 27648 3)
   none-made kind x k l o = ap growthOf (no-edge kind x k l)
 
   -- n nodes that are their own clusters
@@ -68,7 +68,7 @@ module _ (h d : ℕ) (table : List ℕ) (F : Filled base h d table) where
   made-node n x m i = getD-replicate {A = ℕ} 4608 x 0 0 (let b = inside n x i .1 in omega arith)
 
 -- THE FRESH WINDOW: marks are the nodes' own numbers
-module _ (sh : Shape) (ok : inRange (sh .height) (sh .distance) ≡ true) (z : Sizes) (same : z ≡ sizesOf base (sh .height) (sh .distance)) (table : List ℕ) (F : Filled base (sh .height) (sh .distance) table)
+module _ (sh : Shape) (ok : inRange (sh .height) (sh .distance) ≡ true) (fine : modelOk (sh .model) ≡ true) (z : Sizes) (same : z ≡ sizesOf (ofModel (sh .model)) (sh .height) (sh .distance)) (table : List ℕ) (F : Filled (ofModel (sh .model)) (sh .height) (sh .distance) table)
     (marks : List ℕ) (own : marks ≡ stored 0 (λ i. getD table i 0) 4608 (replicate {A = ℕ} 4608 0)) where
   abbrev h : ℕ
   h = sh .height
@@ -96,37 +96,37 @@ module _ (sh : Shape) (ok : inRange (sh .height) (sh .distance) ≡ true) (z : S
   few-nodes : nodesOf (sh .height) (sh .distance) ≤ 3600
   few-nodes = F .safe .nodes
 
-  blank : Blank (planOf (sizesOf base (sh .height) (sh .distance)) table) (nodesOf (sh .height) (sh .distance)) (stateOf (replicate {A = ℕ} 4608 0) marks (replicate {A = ℕ} 27648 3))
+  blank : Blank (planOf (sizesOf (ofModel (sh .model)) (sh .height) (sh .distance)) table) (nodesOf (sh .height) (sh .distance)) (stateOf (replicate {A = ℕ} 4608 0) marks (replicate {A = ℕ} 27648 3))
   blank =
       let n = nodesOf h d in
       record {
-        active = λ x i. ap activeOf (made-node h d table F n x few-nodes i);
-        defect = λ x i. ap defectOf (made-node h d table F n x few-nodes i);
-        unrooted = λ x i. ap unrootedOf (made-node h d table F n x few-nodes i);
-        pointer = λ x i. ap pointerOf (made-node h d table F n x few-nodes i);
+        active = λ x i. ap activeOf (made-node (ofModel (sh .model)) h d table F n x few-nodes i);
+        defect = λ x i. ap defectOf (made-node (ofModel (sh .model)) h d table F n x few-nodes i);
+        unrooted = λ x i. ap unrootedOf (made-node (ofModel (sh .model)) h d table F n x few-nodes i);
+        pointer = λ x i. ap pointerOf (made-node (ofModel (sh .model)) h d table F n x few-nodes i);
         mark = λ x i. own-mark x (let b = inside n x i .1 in omega (arith, few-nodes));
-        growth = λ kind x k l. ap growthOf (no-edge h d table F kind x k l);
-        correction = λ kind x k i. ap correctionOf (no-edge h d table F kind x k (let b = inside n x i .1 in omega (arith, few-nodes)));
+        growth = λ kind x k l. ap growthOf (no-edge (ofModel (sh .model)) h d table F kind x k l);
+        correction = λ kind x k i. ap correctionOf (no-edge (ofModel (sh .model)) h d table F kind x k (let b = inside n x i .1 in omega (arith, few-nodes)));
       }
 
-  pub fresh-starts : (list : ℕ → ℕ) → Held base (planOf z table) (freshWindow base sh) (stateOf (replicate {A = ℕ} 4608 0) marks (replicate {A = ℕ} 27648 3)) true 0 list
+  pub fresh-starts : (list : ℕ → ℕ) → Held (ofModel (sh .model)) (planOf z table) (freshWindow (ofModel (sh .model)) sh) (stateOf (replicate {A = ℕ} 4608 0) marks (replicate {A = ℕ} 27648 3)) true 0 list
   unfolding freshWindow
   fresh-starts list =
-      subst (λ (y : Sizes). Held base (planOf y table) (freshWindow base sh) (stateOf nodes marks edges) true 0 list) (sym same)
-      (fresh-held base sh ok (planOf (sizesOf base h d) table) (F .planned) (stateOf nodes marks edges) blank list)
+      subst (λ (y : Sizes). Held (ofModel (sh .model)) (planOf y table) (freshWindow (ofModel (sh .model)) sh) (stateOf nodes marks edges) true 0 list) (sym same)
+      (fresh-held (ofModel (sh .model)) sh ok fine (planOf (sizesOf (ofModel (sh .model)) h d) table) (F .planned) (stateOf nodes marks edges) blank list)
 
 -- its first round
-pub fresh-shape : (sh : Shape) → freshWindow base sh .shape ≡ sh
+pub fresh-shape : (sh : Shape) → freshWindow (ofModel (sh .model)) sh .shape ≡ sh
 unfolding freshWindow
 fresh-shape sh = refl
 
-pub fresh-next : (sh : Shape) → freshWindow base sh .next ≡ sheetsOf (sh .distance)
+pub fresh-next : (sh : Shape) → freshWindow (ofModel (sh .model)) sh .next ≡ sheetsOf (sh .distance)
 unfolding freshWindow
 fresh-next sh = refl
 
 -- A WINDOW AT REST, unpacked, with all its nodes live
-module _ (w : Window) (k : Kept base w) (rest : isRest (w .stage) ≡ true) (z : Sizes) (same : z ≡ sizesOf base (w .shape .height) (w .shape .distance)) (table : List ℕ)
-    (F : Filled base (w .shape .height) (w .shape .distance) table) (nodes marks edges : List ℕ) (U : Unpacked base w nodes marks edges) (rides : Bool)
+module _ (w : Window) (k : Kept (ofModel (w .shape .model)) w) (rest : isRest (w .stage) ≡ true) (z : Sizes) (same : z ≡ sizesOf (ofModel (w .shape .model)) (w .shape .height) (w .shape .distance)) (table : List ℕ)
+    (F : Filled (ofModel (w .shape .model)) (w .shape .height) (w .shape .distance) table) (nodes marks edges : List ℕ) (U : Unpacked (ofModel (w .shape .model)) w nodes marks edges) (rides : Bool)
     (test : rides ≡ every (z .nodes) (λ g. ridesIn z false nodes edges table (entry g)))
     (lists : List ℕ) (made : lists ≡ stored 9216 (λ i. 512 + i) (z .nodes) (replicate {A = ℕ} 13824 0)) where
   pub lists-long : length lists ≡ 13824
@@ -148,19 +148,19 @@ module _ (w : Window) (k : Kept base w) (rest : isRest (w .stage) ≡ true) (z :
   all : (g : ℕ) → g < size w → named (liveAt lists) (size w) (entry g) ≡ true
   all g l = subst (λ (x : ℕ). named (liveAt lists) (size w) x ≡ true) (listed g l) (list-named (liveAt lists) (size w) g l)
 
-  pub resting-starts : Held base (planOf z table) w (stateOf nodes marks edges) rides (z .nodes) (liveAt lists)
+  pub resting-starts : Held (ofModel (w .shape .model)) (planOf z table) w (stateOf nodes marks edges) rides (z .nodes) (liveAt lists)
   resting-starts =
-      let P = planOf (sizesOf base (w .shape .height) (w .shape .distance)) table in
-      let shows = written-shows base w k nodes marks edges (U .written) in
-      let tested : rides ≡ every (size w) (λ g. ridesIn (sizesOf base (w .shape .height) (w .shape .distance)) false nodes edges table (entry g)) =
+      let P = planOf (sizesOf (ofModel (w .shape .model)) (w .shape .height) (w .shape .distance)) table in
+      let shows = written-shows (ofModel (w .shape .model)) w k nodes marks edges (U .written) in
+      let tested : rides ≡ every (size w) (λ g. ridesIn (sizesOf (ofModel (w .shape .model)) (w .shape .height) (w .shape .distance)) false nodes edges table (entry g)) =
       test ∙ ap (λ (y : Sizes). every (y .nodes) (λ g. ridesIn y false nodes edges table (entry g))) same in
-      subst (λ (y : Sizes). Held base (planOf y table) w (stateOf nodes marks edges) rides (y .nodes) (liveAt lists)) (sym same)
+      subst (λ (y : Sizes). Held (ofModel (w .shape .model)) (planOf y table) w (stateOf nodes marks edges) rides (y .nodes) (liveAt lists)) (sym same)
       (record {
         kept = k;
         rest = rest;
         planned = F .planned;
         shows = shows;
         places = λ i l. ap (within (size w)) (listed i l) ∙ within-by (size w) (entry i) (omega arith) (omega arith);
-        riding = λ t. riding-by base suited-base w k P (F .planned) (stateOf nodes marks edges) shows (sym tested ∙ t);
-        live = λ t. live-all base w (size w) (liveAt lists) all;
+        riding = λ t. riding-by (ofModel (w .shape .model)) (suited-model (w .shape .model)) w k P (F .planned) (stateOf nodes marks edges) shows (sym tested ∙ t);
+        live = λ t. live-all (ofModel (w .shape .model)) w (size w) (liveAt lists) all;
       })

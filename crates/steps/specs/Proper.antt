@@ -65,19 +65,7 @@ points T (suc p) e =
     let z : _≡_ {A = ℕ} 0 1 = cc in absurd (omega arith))
     (order p (length (T .steps)))
 
--- what is none of the base table's pointers stays
-pub no-pointer : (p : ℕ) → (p ≡ 1 → ⊥) → (p ≡ 2 → ⊥) → (p ≡ 3 → ⊥) → (p ≡ 4 → ⊥) → (p ≡ 5 → ⊥) → (p ≡ 6 → ⊥) → here ≡ step base p
-unfolding base
-no-pointer zero n1 n2 n3 n4 n5 n6 = refl
-no-pointer (suc zero) n1 n2 n3 n4 n5 n6 = absurd (n1 refl)
-no-pointer (suc (suc zero)) n1 n2 n3 n4 n5 n6 = absurd (n2 refl)
-no-pointer (suc (suc (suc zero))) n1 n2 n3 n4 n5 n6 = absurd (n3 refl)
-no-pointer (suc (suc (suc (suc zero)))) n1 n2 n3 n4 n5 n6 = absurd (n4 refl)
-no-pointer (suc (suc (suc (suc (suc zero))))) n1 n2 n3 n4 n5 n6 = absurd (n5 refl)
-no-pointer (suc (suc (suc (suc (suc (suc zero)))))) n1 n2 n3 n4 n5 n6 = absurd (n6 refl)
-no-pointer (suc (suc (suc (suc (suc (suc (suc p))))))) n1 n2 n3 n4 n5 n6 = refl
-
--- of the pointers only D goes to the sheet below
+-- of the base table's pointers only D goes to the sheet below
 pub falls-down : (p : ℕ) → falls base p ≡ eqb p 5
 unfolding base
 falls-down zero = refl

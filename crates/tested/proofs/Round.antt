@@ -14,9 +14,9 @@ use Rattle.refusal.specs.Done.{took}
 use Rattle.refusal.specs.declared.Refusal.{Refusal}
 use Rattle.shape.specs.Choice.{order}
 use Rattle.shape.specs.Sizes.{detectorsOf, layerEdgesOf}
-use Rattle.steps.specs.Steps.{base}
+use Rattle.steps.specs.Models.{ofModel}
 use Rattle.layers.specs.Layers.{layerEdges}
-use Rattle.layers.specs.Document.{count-0}
+use Rattle.layers.specs.Document.{count-model}
 use Rattle.list.specs.Sheet.{areBits}
 use Rattle.window.specs.Window.{isRest, maxNext}
 use Rattle.window.specs.Formed.{wellFormed}
@@ -42,29 +42,29 @@ seven a b c d e f g = unless ((a, 21) ∷ (b, 22) ∷ (c, 23) ∷ (d, 3) ∷ (e,
 
 module _ (w : Window) (bytes : List ℕ) (edges escapes : ℕ) where
   abbrev tested : Answer (Unit {0})
-  tested = unless (roundTests base w bytes edges escapes) fine
+  tested = unless (roundTests (ofModel (w .shape .model)) w bytes edges escapes) fine
 
   abbrev sheetTest : Bool
   sheetTest = eqb (length bytes) (detectorsOf (w .shape .height) (w .shape .distance))
 
   abbrev layerTest : Bool
-  layerTest = eqb edges (layerEdgesOf (w .shape .height) (w .shape .distance))
+  layerTest = eqb edges (layerEdgesOf (w .shape .model) (w .shape .height) (w .shape .distance))
 
   abbrev bottomTest : Bool
   bottomTest = eqb escapes (detectorsOf (w .shape .height) (w .shape .distance))
 
-  by-seven : seven (wellFormed base w) (isRest (w .stage)) (ltb (w .next) maxNext) sheetTest layerTest bottomTest (areBits bytes) ≡ tested
+  by-seven : seven (wellFormed (ofModel (w .shape .model)) w) (isRest (w .stage)) (ltb (w .next) maxNext) sheetTest layerTest bottomTest (areBits bytes) ≡ tested
   unfolding seven
-  by-seven = rw (count-0 (w .shape .height) (w .shape .distance))
+  by-seven = rw (count-model (w .shape .model) (w .shape .height) (w .shape .distance))
 
   -- a test of the state, told already
-  pub turned-state : (b : Bool) → b ≡ isRest (w .stage) → (r : Called) → callAnswer r ≡ unless (stateTests base w b) fine → (f : Refusal) → r ≡ called.Refused f → turned f ≡ tested
+  pub turned-state : (b : Bool) → b ≡ isRest (w .stage) → (r : Called) → callAnswer r ≡ unless (stateTests (ofModel (w .shape .model)) w b) fine → (f : Refusal) → r ≡ called.Refused f → turned f ≡ tested
   turned-state b same r as-told f z =
-      sym (turned-first (stateTests base w (isRest (w .stage))) (drop 2 (roundTests base w bytes edges escapes)) f
+      sym (turned-first (stateTests (ofModel (w .shape .model)) w (isRest (w .stage))) (drop 2 (roundTests (ofModel (w .shape .model)) w bytes edges escapes)) f
       (state-turned w b (isRest (w .stage)) same r as-told f z) (Unit {0}) fine)
 
-  module _ (state : (wellFormed base w ≡ true) × (isRest (w .stage) ≡ true)) where
-    a : wellFormed base w ≡ true
+  module _ (state : (wellFormed (ofModel (w .shape .model)) w ≡ true) × (isRest (w .stage) ≡ true)) where
+    a : wellFormed (ofModel (w .shape .model)) w ≡ true
     a = state .0
 
     b : isRest (w .stage) ≡ true
@@ -104,21 +104,21 @@ module _ (w : Window) (bytes : List ℕ) (edges escapes : ℕ) where
 module _ (w : Window) (bytes : List ℕ) (edges escapes : ℕ) where
   -- all tests passed
   pub record Fine : Type 0 where
-    pub formed : wellFormed base w ≡ true
+    pub formed : wellFormed (ofModel (w .shape .model)) w ≡ true
     pub next : w .next < maxNext
     pub sheet : length bytes ≡ detectorsOf (w .shape .height) (w .shape .distance)
-    pub layer : edges ≡ layerEdgesOf (w .shape .height) (w .shape .distance)
+    pub layer : edges ≡ layerEdgesOf (w .shape .model) (w .shape .height) (w .shape .distance)
     pub bottom : escapes ≡ detectorsOf (w .shape .height) (w .shape .distance)
 
-  told-fine : fine ≡ unless (roundTests base w bytes edges escapes) fine → Fine
+  told-fine : fine ≡ unless (roundTests (ofModel (w .shape .model)) w bytes edges escapes) fine → Fine
   told-fine e =
-      let a = took (wellFormed base w) _ (refused 21) tt 0 refl (sym e) in
+      let a = took (wellFormed (ofModel (w .shape .model)) w) _ (refused 21) tt 0 refl (sym e) in
       let b = took (isRest (w .stage)) _ (refused 22) tt 0 refl (a .1) in
       let c = took (ltb (w .next) maxNext) _ (refused 23) tt 0 refl (b .1) in
       let d = took (eqb (length bytes) (detectorsOf (w .shape .height) (w .shape .distance))) _ (refused 3) tt 0 refl (c .1) in
-      let f = took (eqb edges (layerEdges base (w .shape .height) (w .shape .distance))) _ (refused 5) tt 0 refl (d .1) in
+      let f = took (eqb edges (layerEdges (ofModel (w .shape .model)) (w .shape .height) (w .shape .distance))) _ (refused 5) tt 0 refl (d .1) in
       let g = took (eqb escapes (detectorsOf (w .shape .height) (w .shape .distance))) _ (refused 6) tt 0 refl (f .1) in
-      record { formed = a .0; next = ltb-true _ _ (c .0); sheet = eqb-true _ _ (d .0); layer = eqb-true _ _ (f .0) ∙ count-0 (w .shape .height) (w .shape .distance); bottom = eqb-true _ _ (g .0) }
+      record { formed = a .0; next = ltb-true _ _ (c .0); sheet = eqb-true _ _ (d .0); layer = eqb-true _ _ (f .0) ∙ count-model (w .shape .model) (w .shape .height) (w .shape .distance); bottom = eqb-true _ _ (g .0) }
 
-  pub round-fine : (r : Called) → callAnswer r ≡ unless (roundTests base w bytes edges escapes) fine → r ≡ called.Done → Fine
+  pub round-fine : (r : Called) → callAnswer r ≡ unless (roundTests (ofModel (w .shape .model)) w bytes edges escapes) fine → r ≡ called.Done → Fine
   round-fine r t z = told-fine (ap callAnswer (sym z) ∙ t)

@@ -1,16 +1,16 @@
-// What a call tests before it does anything, in the document's order.
+// What a call tests before it does anything, in the documents' order.
 use refusal::Refusal;
 use window::Called;
 use window::MAX_NEXT;
 use window::Window;
 ghost use mathlib.Core.Path.{_≡_};
 ghost use Rattle.refusal.specs.Answer.{done, unless};
-ghost use Rattle.steps.specs.Steps.{base};
+ghost use Rattle.steps.specs.Models.{ofModel};
 ghost use Rattle.window.specs.Calls.{callAnswer, stateTests, roundTests};
 
 // The tests of the state: 21, then 22.
 pub fn test_state(w: Window, staged: bool) -> Called
-    ensures { λ r. ⌜ callAnswer r ≡ unless (stateTests base w staged) (done tt 0) ⌝ }
+    ensures { λ r. ⌜ callAnswer r ≡ unless (stateTests (ofModel (w .shape .model)) w staged) (done tt 0) ⌝ }
 {
     if !formed::well_formed(w) {
         return Called::Refused(Refusal::NotWellFormed);
@@ -21,9 +21,9 @@ pub fn test_state(w: Window, staged: bool) -> Called
     Called::Done
 }
 
-// The tests of both round calls, 21 to 4, in the document's order.
+// The tests of both round calls, 21 to 4, in the documents' order.
 pub fn test_round(w: Window, bytes: &[u8], edges: usize, escapes: usize) -> Called
-    ensures { λ r. ⌜ callAnswer r ≡ unless (roundTests base w (now (bytes .entry)) edges escapes) (done tt 0) ⌝ }
+    ensures { λ r. ⌜ callAnswer r ≡ unless (roundTests (ofModel (w .shape .model)) w (now (bytes .entry)) edges escapes) (done tt 0) ⌝ }
 {
     let stage = w.stage;
     let tested = test_state(w, window::is_rest(stage));

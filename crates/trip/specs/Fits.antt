@@ -6,20 +6,17 @@ use mathlib.Core.List.{List, [], _∷_}
 use lib.ListN.{length}
 use Rattle.number.specs.Number.{largest}
 use Rattle.list.specs.Sheet.{areBits}
-use Rattle.shape.specs.Sizes.{inRange, detectorsOf, layerEdgesOf}
+use Rattle.shape.specs.Sizes.{detectorsOf, layerEdgesOf}
 use Rattle.shape.specs.declared.Shape.{Shape}
-use Rattle.record.specs.Records.{Result}
+use Rattle.record.specs.Records.{IsShape, Result}
 use Rattle.trip.specs.Streams.{Stream}
-
-abbrev pub InRange : Shape → Type 0
-InRange sh = inRange (sh .height) (sh .distance) ≡ true
 
 -- a sheet's detectors, and a layer's edges
 abbrev pub detectorsIn : Shape → ℕ
 detectorsIn sh = detectorsOf (sh .height) (sh .distance)
 
 abbrev pub edgesIn : Shape → ℕ
-edgesIn sh = layerEdgesOf (sh .height) (sh .distance)
+edgesIn sh = layerEdgesOf (sh .model) (sh .height) (sh .distance)
 
 -- so many entries, each 0 or 1
 pub record Entries (n : ℕ) (xs : List ℕ) : Type 0 where
@@ -42,7 +39,7 @@ Each P [] = Unit {0}
 Each P (r ∷ rs) = P r × Each P rs
 
 pub record Fits {A : Type 0} (fits : Shape → A → Type 0) (t : Stream A) : Type 0 where
-  pub shape : InRange (t .shape)
+  pub shape : IsShape (t .shape)
   pub records : Each (fits (t .shape)) (t .records)
 
 abbrev pub InputFits : Stream (List ℕ) → Type 0

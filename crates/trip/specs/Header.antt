@@ -12,75 +12,95 @@ use Rattle.refusal.specs.Bytes.{Bytes}
 use Rattle.refusal.specs.Filling.{drop-part}
 use Rattle.number.specs.Number.{written, numberAt}
 use Rattle.number.specs.Trip.{number-reads, NumberWrites, number-writes, number-no-end}
-use Rattle.shape.specs.Sizes.{maxHeight, maxDistance, heightOk, distanceOk}
-use Rattle.shape.specs.Ranges.{halves, height-ok, distance-ok}
+use Rattle.shape.specs.Sizes.{maxHeight, maxDistance, heightOk, distanceOk, modelOk}
+use Rattle.shape.specs.Ranges.{halves, height-ok, distance-ok, model-ok}
 use Rattle.shape.specs.declared.Shape.{Shape}
-use Rattle.record.specs.Records.{header, headerAt}
-use Rattle.trip.specs.Fits.{InRange}
-use Rattle.record.specs.Laws.{onDistance, onHeight, header-steps, header-next, header-done}
+use Rattle.record.specs.Records.{IsShape, header, onModel, onDistance, onHeight, headerAt}
+use Rattle.record.specs.Laws.{header-steps, header-next, distance-next, header-done}
 
 -- A SHAPE IN RANGE
 
--- its two tests, and what they say
-pub record Ranges (h d : ℕ) : Type 0 where
+-- its three tests, and what they say
+pub record Ranges (h d m : ℕ) : Type 0 where
   pub height : heightOk h ≡ true
   pub distance : distanceOk d ≡ true
+  pub model : modelOk m ≡ true
   pub low : h ≤ maxHeight
   pub near : d ≤ maxDistance
+  pub known : m ≤ 1
 
-pub ranges : (sh : Shape) → InRange sh → Ranges (sh .height) (sh .distance)
+pub ranges : (sh : Shape) → IsShape sh → Ranges (sh .height) (sh .distance) (sh .model)
 ranges sh e =
-    let p = halves (heightOk (sh .height)) (distanceOk (sh .distance)) e in
-    record { height = p .0; distance = p .1; low = height-ok (sh .height) (p .0) .1; near = distance-ok (sh .distance) (p .1) .1 }
+    let p = halves (heightOk (sh .height)) (distanceOk (sh .distance)) (e .sizes) in
+    record {
+      height = p .0;
+      distance = p .1;
+      model = e .model;
+      low = height-ok (sh .height) (p .0) .1;
+      near = distance-ok (sh .distance) (p .1) .1;
+      known = model-ok (sh .model) (e .model);
+    }
 
 -- THERE AND BACK
 
-pub header-reads : (s : List ℕ) (at : ℕ) (sh : Shape) (rest : List ℕ) → InRange sh → drop at s ≡ header sh ++ rest
+pub header-reads : (s : List ℕ) (at : ℕ) (sh : Shape) (rest : List ℕ) → IsShape sh → drop at s ≡ header sh ++ rest
     → headerAt s at ≡ done sh (at + length (header sh))
 unfolding header
 header-reads s at sh rest range e =
     let h : ℕ = sh .height in
     let d : ℕ = sh .distance in
-    let r : Ranges h d = ranges sh range in
-    let e′ : drop at s ≡ written h ++ (written d ++ rest) = e ∙ append-assoc (written h) (written d) rest in
+    let m : ℕ = sh .model in
+    let r : Ranges h d m = ranges sh range in
+    let e₁ : drop at s ≡ written h ++ (written d ++ (written m ++ rest)) = e ∙ simp append-assoc in
     let next : ℕ = at + length (written h) in
-    let behind : next + length (written d) ≡ at + length (written h ++ written d) = simp length-append (omega arith) in
-    header-next s at h next (number-reads s at h (written d ++ rest) e′ (omega arith))
-    ∙ header-done s h next (r .height) d (next + length (written d))
-    (number-reads s next d rest (drop-part s at (written h) (written d ++ rest) e′) (omega arith))
-    (r .distance)
+    let e₂ : drop next s ≡ written d ++ (written m ++ rest) = drop-part s at (written h) (written d ++ (written m ++ rest)) e₁ in
+    let last : ℕ = next + length (written d) in
+    let e₃ : drop last s ≡ written m ++ rest = drop-part s next (written d) (written m ++ rest) e₂ in
+    let behind : last + length (written m) ≡ at + length (written h ++ (written d ++ written m)) = simp length-append (omega arith) in
+    header-next s at h next (number-reads s at h (written d ++ (written m ++ rest)) e₁ (omega arith))
+    ∙ distance-next s h next (r .height) d last (number-reads s next d (written m ++ rest) e₂ (omega arith))
+    ∙ header-done s h d last (r .distance) m (last + length (written m)) (number-reads s last m rest e₃ (omega arith)) (r .model)
     ∙ ap (λ (i : ℕ). done sh i) behind
 
 pub record HeaderWrites (s : List ℕ) (at : ℕ) (sh : Shape) (next : ℕ) : Type 0 where
   pub bytes : drop at s ≡ header sh ++ drop next s
-  pub range : InRange sh
+  pub range : IsShape sh
   pub inside : next ≤ length s
 
 pub header-writes : (s : List ℕ) (at : ℕ) (sh : Shape) (next : ℕ) → Bytes s → headerAt s at ≡ done sh next → HeaderWrites s at sh next
 unfolding header
 header-writes s at sh next b e =
-    let g : Went (numberAt s at) (onHeight s) sh next = went _ _ _ _ (sym (header-steps s at) ∙ e) in
-    let h : ℕ = g .value in
-    let p : (heightOk h ≡ true) × (andThen (numberAt s (g .next)) (onDistance h) ≡ done sh next) = took _ _ _ _ _ refl (g .after) in
-    let g′ : Went (numberAt s (g .next)) (onDistance h) sh next = went _ _ _ _ (p .1) in
-    let d : ℕ = g′ .value in
-    let p′ : (distanceOk d ≡ true) × (done (record { height = h; distance = d }) (g′ .next) ≡ done sh next) = took _ _ _ _ _ refl (g′ .after) in
-    let w : NumberWrites s at h (g .next) = number-writes s at h (g .next) b (g .before) in
-    let w′ : NumberWrites s (g .next) d (g′ .next) = number-writes s (g .next) d (g′ .next) b (g′ .before) in
-    let o : Shape = record { height = h; distance = d } in
-    let same : o ≡ sh = cc (p′ .1) in
-    let last : g′ .next ≡ next = cc (p′ .1) in
-    let bytes : drop at s ≡ header o ++ drop (g′ .next) s =
-    w .bytes ∙ rw (w′ .bytes) (sym (append-assoc (written h) (written d) (drop (g′ .next) s))) in
+    let g₁ : Went (numberAt s at) (onHeight s) sh next = went _ _ _ _ (sym (header-steps s at) ∙ e) in
+    let h : ℕ = g₁ .value in
+    let p₁ : (heightOk h ≡ true) × (andThen (numberAt s (g₁ .next)) (onDistance s h) ≡ done sh next) = took _ _ _ _ _ refl (g₁ .after) in
+    let g₂ : Went (numberAt s (g₁ .next)) (onDistance s h) sh next = went _ _ _ _ (p₁ .1) in
+    let d : ℕ = g₂ .value in
+    let p₂ : (distanceOk d ≡ true) × (andThen (numberAt s (g₂ .next)) (onModel h d) ≡ done sh next) = took _ _ _ _ _ refl (g₂ .after) in
+    let g₃ : Went (numberAt s (g₂ .next)) (onModel h d) sh next = went _ _ _ _ (p₂ .1) in
+    let m : ℕ = g₃ .value in
+    let o : Shape = record { height = h; distance = d; model = m } in
+    let p₃ : (modelOk m ≡ true) × (done o (g₃ .next) ≡ done sh next) = took _ _ _ _ _ refl (g₃ .after) in
+    let w₁ : NumberWrites s at h (g₁ .next) = number-writes s at h (g₁ .next) b (g₁ .before) in
+    let w₂ : NumberWrites s (g₁ .next) d (g₂ .next) = number-writes s (g₁ .next) d (g₂ .next) b (g₂ .before) in
+    let w₃ : NumberWrites s (g₂ .next) m (g₃ .next) = number-writes s (g₂ .next) m (g₃ .next) b (g₃ .before) in
+    let same : o ≡ sh = cc (p₃ .1) in
+    let last : g₃ .next ≡ next = cc (p₃ .1) in
+    let bytes : drop at s ≡ (written h ++ (written d ++ written m)) ++ drop (g₃ .next) s =
+    w₁ .bytes
+    ∙ ap (λ (l : List ℕ). written h ++ l) (w₂ .bytes ∙ ap (λ (l : List ℕ). written d ++ l) (w₃ .bytes))
+    ∙ sym (simp append-assoc) in
     subst₂ (λ (x : Shape) (i : ℕ). HeaderWrites s at x i) same last
-    (record { bytes = bytes; range = ap₂ _&&_ (p .0) (p′ .0); inside = w′ .inside })
+    (record { bytes = bytes; range = record { sizes = ap₂ _&&_ (p₁ .0) (p₂ .0); model = p₃ .0 }; inside = w₃ .inside })
 
 -- a header's reader answers no end
 pub header-no-end : (s : List ℕ) (at : ℕ) → NoEnd (headerAt s at)
 unfolding headerAt
 header-no-end s at =
     no-end-then (numberAt s at) (onHeight s) (number-no-end s at) (λ h next.
-    no-end-test (heightOk h) (andThen (numberAt s next) (onDistance h)) (refused 1)
-    (no-end-then (numberAt s next) (onDistance h) (number-no-end s next) (λ d behind.
-    no-end-test (distanceOk d) (done (record { height = h; distance = d }) behind) (refused 2) tt tt))
+    no-end-test (heightOk h) (andThen (numberAt s next) (onDistance s h)) (refused 1)
+    (no-end-then (numberAt s next) (onDistance s h) (number-no-end s next) (λ d last.
+    no-end-test (distanceOk d) (andThen (numberAt s last) (onModel h d)) (refused 2)
+    (no-end-then (numberAt s last) (onModel h d) (number-no-end s last) (λ m behind.
+    no-end-test (modelOk m) (done (record { height = h; distance = d; model = m }) behind) (refused 31) tt tt))
+    tt))
     tt)

@@ -20,9 +20,9 @@ use Rattle.list.specs.Laws.{length-listed}
 use Rattle.shape.specs.Ranges.{ranged}
 use Rattle.shape.specs.LawsSizes.{detectors-le, layer-le}
 use Rattle.shape.specs.declared.Shape.{Shape}
-use Rattle.record.specs.Records.{unlessEnded, Result, result, resultFrom}
+use Rattle.record.specs.Records.{IsShape, unlessEnded, Result, result, resultFrom}
 use Rattle.trip.specs.Streams.{roundOf, resultOf}
-use Rattle.trip.specs.Fits.{edgesIn, detectorsIn, Entries, RoundFits, RecordFits, InRange}
+use Rattle.trip.specs.Fits.{edgesIn, detectorsIn, Entries, RoundFits, RecordFits}
 use Rattle.record.specs.Laws.{at-end, before-end, onSteps, onEscapes, onEdges, result-steps, result-done, length-result}
 use Rattle.trip.specs.Trip.{RecordWrites, Trips, Kind}
 
@@ -54,12 +54,12 @@ kind read write fits trips noEnd = record {
 
 -- THE SIZES, which are numbers of the stream
 
-module _ (sh : Shape) (range : InRange sh) where
+module _ (sh : Shape) (range : IsShape sh) where
   detectors-small : detectorsIn sh ≤ largest
-  detectors-small = omega (arith, detectors-le (sh .height) (sh .distance) (ranged (sh .height) (sh .distance) range))
+  detectors-small = omega (arith, detectors-le (sh .height) (sh .distance) (ranged (sh .height) (sh .distance) (range .sizes)))
 
   edges-small : edgesIn sh ≤ largest
-  edges-small = omega (arith, layer-le (sh .height) (sh .distance) (ranged (sh .height) (sh .distance) range))
+  edges-small = omega (arith, layer-le (sh .model) (sh .height) (sh .distance) (ranged (sh .height) (sh .distance) (range .sizes)))
 
 -- a list of entries that fit
 entries-read : (s : List ℕ) (n at : ℕ) (xs rest : List ℕ) → n ≤ largest → Entries n xs → drop at s ≡ listed xs ++ rest
@@ -96,7 +96,7 @@ result-no-end s edges detectors at =
     no-end-then (listAt s detectors next) (onEscapes s c) (list-no-end s detectors next) (λ x last.
     no-end-then (numberAt s last) (onSteps c x) (number-no-end s last) (λ n behind. tt)))
 
-result-reads : (s : List ℕ) (sh : Shape) (at : ℕ) (r : Result) (rest : List ℕ) → InRange sh → RecordFits sh r → drop at s ≡ result r ++ rest
+result-reads : (s : List ℕ) (sh : Shape) (at : ℕ) (r : Result) (rest : List ℕ) → IsShape sh → RecordFits sh r → drop at s ≡ result r ++ rest
     → resultFrom s (edgesIn sh) (detectorsIn sh) at ≡ done r (at + length (result r))
 unfolding result
 result-reads s sh at r rest range f e =

@@ -54,7 +54,7 @@ inputBytes t = bytesOf listed t
 -- THE RESULT STREAM
 
 abbrev pub resultOf : List ℕ → Shape → ℕ → Answer Result
-resultOf s sh at = resultAt s (layerEdgesOf (sh .height) (sh .distance)) (detectorsOf (sh .height) (sh .distance)) at
+resultOf s sh at = resultAt s (layerEdgesOf (sh .model) (sh .height) (sh .distance)) (detectorsOf (sh .height) (sh .distance)) at
 
 abbrev pub resultsOf : List ℕ → Answer (Stream Result)
 resultsOf s = streamOf resultOf s

@@ -10,9 +10,9 @@ use Rattle.refusal.specs.Ends.{NoEnd, no-end, no-end-then}
 use Rattle.refusal.specs.Bytes.{Bytes, part-inside, at-end}
 use Rattle.refusal.specs.Filling.{drop-part}
 use Rattle.shape.specs.declared.Shape.{Shape}
-use Rattle.record.specs.Records.{header, headerAt}
+use Rattle.record.specs.Records.{IsShape, header, headerAt}
 use Rattle.trip.specs.Streams.{Stream, allBytes, recordsAt, streamOf, bytesOf}
-use Rattle.trip.specs.Fits.{Each, InRange, Fits}
+use Rattle.trip.specs.Fits.{Each, Fits}
 use Rattle.record.specs.Laws.{length-header}
 use Rattle.trip.specs.Header.{header-reads, HeaderWrites, header-writes, header-no-end}
 
@@ -24,7 +24,7 @@ pub record RecordWrites {A : Type 0} (write : A → List ℕ) (s : List ℕ) (at
 
 -- records that go there and back one by one, each of a byte at least
 pub record Trips {A : Type 0} (read : List ℕ → Shape → ℕ → Answer A) (write : A → List ℕ) (fits : Shape → A → Type 0) : Type 0 where
-  pub reads : (s : List ℕ) (sh : Shape) (at : ℕ) (r : A) (rest : List ℕ) → InRange sh → fits sh r → drop at s ≡ write r ++ rest
+  pub reads : (s : List ℕ) (sh : Shape) (at : ℕ) (r : A) (rest : List ℕ) → IsShape sh → fits sh r → drop at s ≡ write r ++ rest
       → read s sh at ≡ done r (at + length (write r))
   pub writes : (s : List ℕ) (sh : Shape) (at : ℕ) (r : A) (next : ℕ) → Bytes s → read s sh at ≡ done r next → RecordWrites write s at r next × fits sh r
   pub some : (r : A) → 0 < length (write r)
@@ -79,7 +79,7 @@ module _ {A : Type 0} (read : List ℕ → Shape → ℕ → Answer A) (write : 
   records-some [] = omega arith
   records-some (r ∷ rs) = let h = kind .trips .some r in let l = records-some rs in simp length-append (omega arith)
 
-  records-read : (s : List ℕ) (sh : Shape) → InRange sh → (n : ℕ) (rs : List A) (at : ℕ) → length rs < n → at ≤ length s → Each (fits sh) rs
+  records-read : (s : List ℕ) (sh : Shape) → IsShape sh → (n : ℕ) (rs : List A) (at : ℕ) → length rs < n → at ≤ length s → Each (fits sh) rs
       → drop at s ≡ allBytes write rs → recordsAt (read s sh) n at ≡ done rs (length s)
   unfolding allBytes
   records-read s sh range zero rs at h l f e = absurd (omega arith)

@@ -5,9 +5,9 @@ use mathlib.Core.Path.{_≡_}
 use mathlib.Core.Bool.{Bool, true}
 use mathlib.Core.List.{List}
 use lib.ListN.{length}
-use Rattle.shape.specs.Sizes.{inRange}
+use Rattle.shape.specs.Sizes.{inRange, modelOk}
 use Rattle.shape.specs.declared.Shape.{Shape}
-use Rattle.steps.specs.Steps.{base}
+use Rattle.steps.specs.Models.{ofModel}
 use Rattle.window.specs.declared.Window.{Window}
 use Rattle.flat.specs.Entries.{State, stateOf, Long}
 use Rattle.flat.specs.Plan.{Plan, planOf}
@@ -21,7 +21,7 @@ use Rattle.shows.specs.Turn.{Held}
 
 -- some window of the shape, with its next round
 abbrev pub HeldAt : Plan → Shape → ℕ → State → Bool → ℕ → (ℕ → ℕ) → Type 0
-HeldAt P sh next st rides count list = (w : Window) × (w .shape ≡ sh) × (w .next ≡ next) × Held base P w st rides count list
+HeldAt P sh next st rides count list = (w : Window) × (w .shape ≡ sh) × (w .next ≡ next) × Held (ofModel (sh .model)) P w st rides count list
 
 -- lists and words of their lengths, and no node queued
 pub record Scratch (lists : List ℕ) (queued : List Bool) (words : List ℕ) : Type 0 where
@@ -32,11 +32,12 @@ pub record Scratch (lists : List ℕ) (queued : List Bool) (words : List ℕ) : 
 -- the table of the shape; the set that holds the window; the free set, with no edge in its margins; and the live nodes, so many
 pub record Ready (sh : Shape) (z : Sizes) (next : ℕ) (rides : Bool) (live : ℕ) (nodes marks edges free-nodes free-marks free-edges table lists : List ℕ) (queued : List Bool) (words : List ℕ) : Type 0 where
   pub range : inRange (sh .height) (sh .distance) ≡ true
-  pub sizes : z ≡ sizesOf base (sh .height) (sh .distance)
-  pub filled : Filled base (sh .height) (sh .distance) table
+  pub model : modelOk (sh .model) ≡ true
+  pub sizes : z ≡ sizesOf (ofModel (sh .model)) (sh .height) (sh .distance)
+  pub filled : Filled (ofModel (sh .model)) (sh .height) (sh .distance) table
   pub long : Long nodes marks edges
   pub free : Long free-nodes free-marks free-edges
-  pub outside : NoneOutside base (sh .height) (sh .distance) free-edges
+  pub outside : NoneOutside (ofModel (sh .model)) (sh .height) (sh .distance) free-edges
   pub scratch : Scratch lists queued words
   pub few : live ≤ 4608
   pub held : HeldAt (planOf z table) sh next (stateOf nodes marks edges) rides live (liveAt lists)

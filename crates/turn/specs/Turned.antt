@@ -6,8 +6,8 @@ use mathlib.Core.Bool.{Bool, true, false}
 use mathlib.Core.List.{List, []}
 use Rattle.shape.specs.Sizes.{nodesOf}
 use Rattle.shape.specs.declared.Shape.{Shape}
-use Rattle.steps.specs.Steps.{base}
-use Rattle.steps.specs.Models.{suited-base}
+use Rattle.steps.specs.Steps.{Table}
+use Rattle.steps.specs.Models.{ofModel, suited-model}
 use Rattle.window.specs.Grow.{grown}
 use Rattle.window.specs.Round.{rounded}
 use Rattle.window.specs.Run.{stepsFrom, ran}
@@ -38,13 +38,13 @@ use Rattle.work_list.specs.Work.{places-same}
 use Rattle.turn.specs.Ready.{HeldAt, Scratch}
 
 -- THE WINDOW AFTER IT, and that it is held if it came to rest
-pub record Turned (P : Plan) (w : Window) (bytes : List ℕ) (rides rest : Bool) (made : ℕ) (st : State) (count : ℕ) (list : ℕ → ℕ) : Type 0 where
+pub record Turned (T : Table) (P : Plan) (w : Window) (bytes : List ℕ) (rides rest : Bool) (made : ℕ) (st : State) (count : ℕ) (list : ℕ → ℕ) : Type 0 where
   pub window : Window
-  pub equals : ran base 65536 (rounded base w bytes) ≡ record { window = window; rest = rest; count = made }
+  pub equals : ran T 65536 (rounded T w bytes) ≡ record { window = window; rest = rest; count = made }
   pub shape : window .shape ≡ w .shape
   pub next : window .next ≡ w .next + 1
   pub measured : window .measured ≡ w .measured
-  pub held : rest ≡ true → Held base P window st rides count list
+  pub held : rest ≡ true → Held T P window st rides count list
 
 -- after grow the nodes are as active as after the round, and bear the same defects
 module _ (P : Plan) (n sheet : ℕ) (st₁ : State) (nodes marks edges : List ℕ) (G : Grows P n sheet st₁ (stateOf nodes marks edges)) (fits : sheet ≤ n) (before : ℕ) (was : ℕ → ℕ) (p : Places n before was)
@@ -62,8 +62,8 @@ module _ (P : Plan) (n sheet : ℕ) (st₁ : State) (nodes marks edges : List �
       }
 
 module _ (P : Plan) (sh : Shape) (next : ℕ) (second : Bool) (there : second ≡ secondThere (sh .distance) next) (bytes : List ℕ) (rides : Bool) (st : State) (before : ℕ) (was : ℕ → ℕ) (st₁ : State)
-    (A₁ : Sinks base (sh .height) (sh .distance) P second bytes st st₁)
-    (z : Sizes) (sizes : z ≡ sizesOf base (sh .height) (sh .distance)) (fits : z .sheet ≤ z .nodes)
+    (A₁ : Sinks (ofModel (sh .model)) (sh .height) (sh .distance) P second bytes st st₁)
+    (z : Sizes) (sizes : z ≡ sizesOf (ofModel (sh .model)) (sh .height) (sh .distance)) (fits : z .sheet ≤ z .nodes)
     (nodes marks edges : List ℕ) (A₂ : Grows P (z .nodes) (z .sheet) st₁ (stateOf nodes marks edges)) where
   abbrev st₂ : State
   st₂ = stateOf nodes marks edges
@@ -71,7 +71,7 @@ module _ (P : Plan) (sh : Shape) (next : ℕ) (second : Bool) (there : second �
   abbrev n : ℕ
   n = z .nodes
 
-  module _ (w : Window) (shape : w .shape ≡ sh) (next-is : w .next ≡ next) (H : Held base P w st rides before was) where
+  module _ (w : Window) (shape : w .shape ≡ sh) (next-is : w .next ≡ next) (H : Held (ofModel (sh .model)) P w st rides before was) where
     is-there : second ≡ secondThere (w .shape .distance) (w .next)
     is-there = rw (shape, next-is) there
 
@@ -81,8 +81,8 @@ module _ (P : Plan) (sh : Shape) (next : ℕ) (second : Bool) (there : second �
     sheet-is : z .sheet ≡ sheet w
     sheet-is = ap (λ (y : Sizes). y .sheet) sizes ∙ ap (λ (s : Shape). s .height * (s .distance + 1)) (sym shape)
 
-    sinks : Sinks base (w .shape .height) (w .shape .distance) P (secondThere (w .shape .distance) (w .next)) bytes st st₁
-    sinks = subst (λ (b : Bool). Sinks base (w .shape .height) (w .shape .distance) P b bytes st st₁) is-there (subst (λ (s : Shape). Sinks base (s .height) (s .distance) P second bytes st st₁) (sym shape) A₁)
+    sinks : Sinks (ofModel (sh .model)) (w .shape .height) (w .shape .distance) P (secondThere (w .shape .distance) (w .next)) bytes st st₁
+    sinks = subst (λ (b : Bool). Sinks (ofModel (sh .model)) (w .shape .height) (w .shape .distance) P b bytes st st₁) is-there (subst (λ (s : Shape). Sinks (ofModel (sh .model)) (s .height) (s .distance) P second bytes st st₁) (sym shape) A₁)
 
     grows : Grows P (size w) (sheet w) st₁ st₂
     grows = subst (λ (m : ℕ). Grows P m (sheet w) st₁ st₂) size-is (subst (λ (m : ℕ). Grows P n m st₁ st₂) sheet-is A₂)
@@ -91,8 +91,8 @@ module _ (P : Plan) (sh : Shape) (next : ℕ) (second : Bool) (there : second �
     inside-size : (x : ℕ) → within (size w) x ≡ true → Inside P (λ e. growthOf (getD edges e 0)) x (P .dirs) (size w)
     unfolding grown rounded
     inside-size =
-        open-inside base suited-base P (grown base (rounded base w bytes)) st₂ (turn-kept base suited-base P w st rides before was H bytes st₁ sinks st₂ grows) (H .planned)
-        (turn-shows base suited-base P w st rides before was H bytes st₁ sinks st₂ grows)
+        open-inside (ofModel (sh .model)) (suited-model (sh .model)) P (grown (ofModel (sh .model)) (rounded (ofModel (sh .model)) w bytes)) st₂ (turn-kept (ofModel (sh .model)) (suited-model (sh .model)) P w st rides before was H bytes st₁ sinks st₂ grows) (H .planned)
+        (turn-shows (ofModel (sh .model)) (suited-model (sh .model)) P w st rides before was H bytes st₁ sinks st₂ grows)
 
     pub turned-inside : (x : ℕ) → within n x ≡ true → Inside P (λ e. growthOf (getD edges e 0)) x (P .dirs) n
     turned-inside x i =
@@ -117,22 +117,22 @@ module _ (P : Plan) (sh : Shape) (next : ℕ) (second : Bool) (there : second �
       every f g l = all f g (rw size-is l)
 
       -- the steps begin
-      pub turned-going : Going base P (grown base (rounded base w bytes)) (stateOf nodes marks edges) rides count list
-      turned-going = turn-going base suited-base P w st rides before was H bytes st₁ sinks st₂ grows count list listed lively every
+      pub turned-going : Going (ofModel (sh .model)) P (grown (ofModel (sh .model)) (rounded (ofModel (sh .model)) w bytes)) (stateOf nodes marks edges) rides count list
+      turned-going = turn-going (ofModel (sh .model)) (suited-model (sh .model)) P w st rides before was H bytes st₁ sinks st₂ grows count list listed lively every
 
-      same-size : size (grown base (rounded base w bytes)) ≡ n
+      same-size : size (grown (ofModel (sh .model)) (rounded (ofModel (sh .model)) w bytes)) ≡ n
       unfolding grown rounded
       same-size = sym size-is
 
       pub turned-shown : Shown P n (stateOf nodes marks edges) rides count list
-      turned-shown = (grown base (rounded base w bytes), same-size, turned-going)
+      turned-shown = (ofModel (sh .model), suited-model (sh .model), grown (ofModel (sh .model)) (rounded (ofModel (sh .model)) w bytes), same-size, turned-going)
 
       -- and end; the list of live nodes stands elsewhere
       module _ (rest : Bool) (made : ℕ) (st₃ : State) (E : Ended P n 65536 st₂ rides count list rest made st₃) (list' : ℕ → ℕ) (copied : (i : ℕ) → i < count → list' i ≡ list i) where
-        over : Over base P 65536 (stepsFrom base 65536 0 (grown base (rounded base w bytes))) rides (λ g. named list count (entry g)) (grown base (rounded base w bytes)) rest made st₃
+        over : Over (ofModel (sh .model)) P 65536 (stepsFrom (ofModel (sh .model)) 65536 0 (grown (ofModel (sh .model)) (rounded (ofModel (sh .model)) w bytes))) rides (λ g. named list count (entry g)) (grown (ofModel (sh .model)) (rounded (ofModel (sh .model)) w bytes)) rest made st₃
         over =
-            E (grown base (rounded base w bytes)) same-size turned-going (λ g. named list count (entry g))
-            (turn-live base suited-base P w st rides before was H bytes st₁ sinks st₂ grows count list listed lively every)
+            E (ofModel (sh .model)) (suited-model (sh .model)) (grown (ofModel (sh .model)) (rounded (ofModel (sh .model)) w bytes)) same-size turned-going (λ g. named list count (entry g))
+            (turn-live (ofModel (sh .model)) (suited-model (sh .model)) P w st rides before was H bytes st₁ sinks st₂ grows count list listed lively every)
 
         same-shape : over .window .shape ≡ w .shape
         unfolding grown rounded
@@ -146,11 +146,11 @@ module _ (P : Plan) (sh : Shape) (next : ℕ) (second : Bool) (there : second �
         unfolding grown rounded
         same-measured = over .measured
 
-        pub turned : Turned P w bytes rides rest made st₃ count list'
+        pub turned : Turned (ofModel (sh .model)) P w bytes rides rest made st₃ count list'
         turned =
             record {
               window = over .window;
-              equals = ran-round base 65536 w bytes ∙ over .equals;
+              equals = ran-round (ofModel (sh .model)) 65536 w bytes ∙ over .equals;
               shape = same-shape;
               next = later;
               measured = same-measured;
@@ -158,7 +158,7 @@ module _ (P : Plan) (sh : Shape) (next : ℕ) (second : Bool) (there : second �
                   record {
                     kept = over .kept;
                     rest = over .still r;
-                    planned = subst (λ (s : Shape). Planned base (s .height) (s .distance) P) (sym same-shape) (H .planned);
+                    planned = subst (λ (s : Shape). Planned (ofModel (sh .model)) (s .height) (s .distance) P) (sym same-shape) (H .planned);
                     shows = over .shows;
                     places = subst (λ (s : Shape). Places (nodesOf (s .height) (s .distance)) count list') (sym same-shape) (places-same list list' count copied (size w) listed);
                     riding = over .riding;
@@ -172,10 +172,10 @@ pub record TurnLeaves (P : Plan) (sh : Shape) (next : ℕ) (bytes : List ℕ) (s
   pub long : Long nodes marks edges
   pub few : count ≤ 4608
   pub scratch : Scratch lists queued words
-  pub turns : (w : Window) → w .shape ≡ sh → w .next ≡ next → Held base P w st rides before was → Turned P w bytes rides rest made (stateOf nodes marks edges) count (liveAt lists)
+  pub turns : (w : Window) → w .shape ≡ sh → w .next ≡ next → Held (ofModel (sh .model)) P w st rides before was → Turned (ofModel (sh .model)) P w bytes rides rest made (stateOf nodes marks edges) count (liveAt lists)
 
 -- no edge goes up from the top sheet of a window that is held
 pub held-above : (P : Plan) (sh : Shape) (next : ℕ) (nodes marks edges : List ℕ) (rides : Bool) (count : ℕ) (list : ℕ → ℕ) → HeldAt P sh next (stateOf nodes marks edges) rides count list
-    → NoneAbove base (sh .height) (sh .distance) edges
+    → NoneAbove (ofModel (sh .model)) (sh .height) (sh .distance) edges
 held-above P sh next nodes marks edges rides count list H =
-    subst (λ (s : Shape). NoneAbove base (s .height) (s .distance) edges) (H .1) (none-above base suited-base (H .0) (H .3 .kept) nodes marks edges (H .3 .shows))
+    subst (λ (s : Shape). NoneAbove (ofModel (sh .model)) (s .height) (s .distance) edges) (H .1) (none-above (ofModel (sh .model)) (suited-model (sh .model)) (H .0) (H .3 .kept) nodes marks edges (H .3 .shows))

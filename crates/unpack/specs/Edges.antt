@@ -32,15 +32,15 @@ kindOn n sheet there growth correction table kind l =
 
 pub record KindLow (nodes n first k kind : ℕ) : Type 0 where
   pub sheets : k * n + first * n + n ≤ 3600
-  pub slots : nodes * kind ≤ 7200
+  pub slots : nodes * kind ≤ 18000
 
 pub first-low : (n first : ℕ) → n ≤ 240 → first ≤ 1 → first * n ≤ 240
 first-low n first a b = mul-le-mul {n₂ = 1} {m₂ = 240} b a
 
-pub slots-low : (nodes kind : ℕ) → kind < 3 → nodes ≤ 3600 → nodes * kind ≤ 7200
-slots-low nodes kind a b = let c : kind ≤ 2 = omega arith in mul-le-mul {n₂ = 3600} {m₂ = 2} b c
+pub slots-low : (nodes kind : ℕ) → kind < 6 → nodes ≤ 3600 → nodes * kind ≤ 18000
+slots-low nodes kind a b = let c : kind ≤ 5 = omega arith in mul-le-mul {n₂ = 3600} {m₂ = 5} b c
 
-pub kind-low : (nodes n there first k kind : ℕ) → kind < 3 → nodes ≤ 3600 → there * n ≤ nodes → k + first < there → KindLow nodes n first k kind
+pub kind-low : (nodes n there first k kind : ℕ) → kind < 6 → nodes ≤ 3600 → there * n ≤ nodes → k + first < there → KindLow nodes n first k kind
 kind-low nodes n there first k kind a b c l =
     let e : k + first + 1 ≤ there = omega arith in
     let f = mul-le-mul-right n e in

@@ -16,7 +16,7 @@ use Rattle.shape.specs.Nodes.{indexOf}
 use Rattle.shape.specs.Ranges.{in-range, halves, both, nodes-of, sheets-le}
 use Rattle.shape.specs.Sizes.{inRange, sheetsOf}
 use Rattle.shape.specs.declared.Place.{Place}
-use Rattle.steps.specs.Steps.{Table, base, namer, slotIn}
+use Rattle.steps.specs.Steps.{Table, namer, slotIn}
 use Rattle.steps.specs.Proper.{points}
 use Rattle.steps.specs.Suited.{Suited}
 use Rattle.steps.specs.Ranks.{bit}
@@ -311,14 +311,14 @@ module _ (T : Table) (S : Suited T) (w : Window) (F : Facts T w) (table : List �
       (subst (λ (r : List ℕ). Unpacked T w (stored 512 (nodeRule w) n nodes₀) (stored 512 (markRule w) n marks₀) r) (sym v) (unpacked nodes₀ marks₀ a b)))
 
   -- what the loop over the kinds asks
-  pub asked : (z : Sizes) (there' : ℕ) → z ≡ sizesOf T h d → there' ≡ there → T .kinds ≤ 3
-      → (z .kinds ≤ 3) × (z .nodes ≤ 3600) × (z .sheet ≤ 240) × (there' * z .sheet ≤ z .nodes) × ((kind : ℕ) → kind < z .kinds → getD table (160 + kind) 0 ≤ 1) × (there' ≤ 15)
-  asked z there' ez et three =
+  pub asked : (z : Sizes) (there' : ℕ) → z ≡ sizesOf T h d → there' ≡ there
+      → (z .kinds ≤ 6) × (z .nodes ≤ 3600) × (z .sheet ≤ 240) × (there' * z .sheet ≤ z .nodes) × ((kind : ℕ) → kind < z .kinds → getD table (160 + kind) 0 ≤ 1) × (there' ≤ 15)
+  asked z there' ez et =
       let r = F .ranged in
       let y = r .d-max in
       let m = there-most in
       let l = sheets-le d y in
-      rw (ez, et) (three, few, sheet-most h d (in-range h d r), all-there, first-le, omega arith)
+      rw (ez, et) (room, few, sheet-most h d (in-range h d r), all-there, first-le, omega arith)
     where
       all-there : there * sheet ≤ n
       all-there = let a = sheets-within 0 (omega arith) in let e : 0 + (there - 0) ≡ there = omega arith in rw e at a
@@ -333,7 +333,3 @@ module _ (T : Table) (S : Suited T) (w : Window) (F : Facts T w) (table : List �
 
 pub formed-range : (T : Table) (w : Window) → wellFormed T w ≡ true → inRange (w .shape .height) (w .shape .distance) ≡ true
 formed-range T w e = in-range _ _ (facts T w e .ranged)
-
-pub three-kinds : base .kinds ≤ 3
-unfolding base
-three-kinds = omega arith

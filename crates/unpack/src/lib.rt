@@ -19,7 +19,7 @@ ghost use mathlib.Core.Path.{_≡_};
 ghost use mathlib.Core.Bool.{true};
 ghost use Prim.Native.Nat.{ℕ, _+_, _-_, _*_, _≤_, _<_};
 ghost use lib.ListN.{length, getD, replicate};
-ghost use Rattle.steps.specs.Steps.{base};
+ghost use Rattle.steps.specs.Models.{ofModel};
 ghost use Rattle.window.specs.Lists.{every};
 ghost use Rattle.window.specs.Formed.{wellFormed};
 ghost use Rattle.flat.specs.Codes.{nodeCode, pointerOf, markCode};
@@ -70,7 +70,7 @@ fn edges_sheet(
     edges: &mut [u8; PLANES],
     table: &[u16; TABLE],
 )
-    requires { ⌜ (fresh + n ≤ 7680) × (x + n ≤ 27648) × (e + n ≤ 10800) ⌝ }
+    requires { ⌜ (fresh + n ≤ 7680) × (x + n ≤ 27648) × (e + n ≤ 21600) ⌝ }
     ensures { λ _. ⌜ now (edges .exit) ≡ stored x (sheetRule (now (growth .entry)) (now (correction .entry)) (now (table .entry)) fresh e) n (now (edges .entry)) ⌝ }
 {
     let mut i: usize = 0;
@@ -90,7 +90,7 @@ fn edges_kind(
     edges: &mut [u8; PLANES],
     table: &[u16; TABLE],
 )
-    requires { ⌜ (kind < 3) × (z .nodes ≤ 3600) × (z .sheet ≤ 240) × (there * z .sheet ≤ z .nodes) × (getD (now table) (160 + kind) 0 ≤ 1) × (there ≤ 15) ⌝ }
+    requires { ⌜ (kind < 6) × (z .nodes ≤ 3600) × (z .sheet ≤ 240) × (there * z .sheet ≤ z .nodes) × (getD (now table) (160 + kind) 0 ≤ 1) × (there ≤ 15) ⌝ }
     ensures { λ _. ⌜ now (edges .exit) ≡ kindOn (z .nodes) (z .sheet) there (now (growth .entry)) (now (correction .entry)) (now (table .entry)) kind (now (edges .entry)) ⌝ }
 {
     let n = z.sheet;
@@ -123,7 +123,7 @@ fn edges_kinds<'a>(
     edges: &mut [u8; PLANES],
     table: &[u16; TABLE],
 )
-    requires { ⌜ (z .kinds ≤ 3) × (z .nodes ≤ 3600) × (z .sheet ≤ 240) × (there * z .sheet ≤ z .nodes) × ((kind : ℕ) → kind < z .kinds → getD (now table) (160 + kind) 0 ≤ 1) × (there ≤ 15) ⌝ }
+    requires { ⌜ (z .kinds ≤ 6) × (z .nodes ≤ 3600) × (z .sheet ≤ 240) × (there * z .sheet ≤ z .nodes) × ((kind : ℕ) → kind < z .kinds → getD (now table) (160 + kind) 0 ≤ 1) × (there ≤ 15) ⌝ }
     ensures { λ _. ⌜ now (edges .exit) ≡ passes (kindOn (z .nodes) (z .sheet) there (now (growth .entry)) (now (correction .entry)) (now (table .entry))) (z .kinds) (now (edges .entry)) ⌝ }
 {
     let kinds = z.kinds;
@@ -142,10 +142,10 @@ pub fn unpack(
     edges: &mut [u8; PLANES],
     table: &[u16; TABLE],
 )
-    requires { ⌜ wellFormed base w ≡ true ⌝ }
-    requires { ⌜ Filled base (w .shape .height) (w .shape .distance) (now table) ⌝ }
+    requires { ⌜ wellFormed (ofModel (w .shape .model)) w ≡ true ⌝ }
+    requires { ⌜ Filled (ofModel (w .shape .model)) (w .shape .height) (w .shape .distance) (now table) ⌝ }
     requires { ⌜ (length (now nodes) ≡ 4608) × (length (now marks) ≡ 4608) × (now edges ≡ replicate 27648 3) ⌝ }
-    ensures { λ _. ⌜ Unpacked base w (now (nodes .exit)) (now (marks .exit)) (now (edges .exit)) ⌝ }
+    ensures { λ _. ⌜ Unpacked (ofModel (w .shape .model)) w (now (nodes .exit)) (now (marks .exit)) (now (edges .exit)) ⌝ }
 {
     let z = plan::sizes(w.shape);
     let there = window::present(w.shape, w.next);

@@ -25,26 +25,26 @@ use Rattle.window.specs.declared.Window.{Window}
 
 -- after so many rounds, the first with a defect, and nothing grown
 unfoldable pub after : ℕ → Window
-after zero = fresh.freshWindow base (record { height = 1; distance = 2 })
+after zero = fresh.freshWindow base (record { height = 1; distance = 2; model = 0 })
 after (suc zero) = round.rounded base (after zero) (1 ∷ [])
 after (suc (suc n)) = round.rounded base (after (suc n)) (0 ∷ [])
 
 -- ONE THING CHANGED in it
 
-abbrev node : ℕ → Node → Window → Window
+abbrev pub node : ℕ → Node → Window → Window
 node g n w = record { shape = w .shape; stage = w .stage; next = w .next; nodes = set (w .nodes) g n; growth = w .growth; correction = w .correction; measured = w .measured }
 
-abbrev halves : ℕ → ℕ → Window → Window
+abbrev pub halves : ℕ → ℕ → Window → Window
 halves e n w = record { shape = w .shape; stage = w .stage; next = w .next; nodes = w .nodes; growth = set (w .growth) e n; correction = w .correction; measured = w .measured }
 
 abbrev flips : ℕ → Window → Window
 flips e w = record { shape = w .shape; stage = w .stage; next = w .next; nodes = w .nodes; growth = w .growth; correction = set (w .correction) e true; measured = w .measured }
 
-abbrev stage : Stage → Window → Window
+abbrev pub stage : Stage → Window → Window
 stage x w = record { shape = w .shape; stage = x; next = w .next; nodes = w .nodes; growth = w .growth; correction = w .correction; measured = w .measured }
 
 -- a node by its active, defect and unrooted bits, pointer and mark
-abbrev with : Bool → Bool → Bool → ℕ → Mark → Node
+abbrev pub with : Bool → Bool → Bool → ℕ → Mark → Node
 with a x u p m = record { active = a; defect = x; unrooted = u; pointer = p; mark = m }
 
 abbrev Formed : Window → Type 0

@@ -1,4 +1,4 @@
--- THE CALLS, refused ones too: what each answers and leaves, in document 01's numbers. Assumes nothing.
+-- THE CALLS, refused ones too: what each answers and leaves, in the documents' numbers. Assumes nothing.
 use Prim.Native.Nat.{ℕ}
 use mathlib.Core.Bool.{Bool, not}
 use mathlib.Core.List.{List, [], _∷_}
@@ -40,9 +40,9 @@ given a w = record { answer = a; window = w }
 abbrev pub leaves : {A : Type 0} → Answer A → (A → Window) → Window → Answered (Unit {0})
 leaves a of w = given (withoutValue a) (valueOr a of w)
 
--- 1, 2
-unfoldable pub freshCall : Table → ℕ → ℕ → Answer Window
-freshCall T h d = andThen (shapeOf h d) (λ sh n. done (freshWindow T sh) n)
+-- 1, 2, 31
+unfoldable pub freshCall : Table → ℕ → ℕ → ℕ → Answer Window
+freshCall T h d m = andThen (shapeOf h d m) (λ sh n. done (freshWindow T sh) n)
 
 -- what a round call leaves, plain or raw
 pub record Round : Type 0 where

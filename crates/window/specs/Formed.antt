@@ -6,7 +6,7 @@ use lib.Dec.{ltb, leb, eqb}
 use lib.ListN.{getD, drop}
 use Rattle.shape.specs.Choice.{if}
 use Rattle.shape.specs.Nodes.{numberOf}
-use Rattle.shape.specs.Sizes.{sheetsOf, boundary, inRange, nodesIn, detectorsOf}
+use Rattle.shape.specs.Sizes.{sheetsOf, boundary, inRange, modelOk, nodesIn, detectorsOf}
 use Rattle.steps.specs.Steps.{Table, namer, slotIn}
 use Rattle.shape.specs.declared.Place.{Place}
 use Rattle.window.specs.Lists.{every, all}
@@ -34,7 +34,7 @@ isFresh own n = not (n .active) && not (n .defect) && not (n .unrooted) && eqb (
 abbrev pub unusedNode : Node → Bool
 unusedNode n = isFresh 0 n
 
--- pointers along edges between the first k sheets; in stage to grow the sheet that has left is one of them, so that a bottom detector's may be D
+-- pointers along edges between the first k sheets; in stage to grow the sheet that has left is one of them, so that a bottom detector's may have a D
 unfoldable pub pointerFits : Table → ℕ → ℕ → ℕ → Place → ℕ → Bool
 pointerFits T h d k q p = eqb p 0 || reach T h d k p q .there
 
@@ -73,6 +73,7 @@ module _ (T : Table) (w : Window) where
   unfoldable pub wellFormed : Bool
   wellFormed =
       inRange (w .shape .height) (w .shape .distance)
+      && modelOk (w .shape .model)
       && leb (sheetsOf (w .shape .distance)) (w .next)
       && every (size w) nodeFitsAt
       && every (size w) (λ g. every (T .kinds) (slotFitsAt g))

@@ -7,6 +7,7 @@ use Rattle.shape.specs.Sizes.{sheetsOf, nodesOf, maxNodes, maxDetectors}
 use Rattle.shape.specs.Nodes.{numberOf, placeAt}
 use Rattle.shape.specs.declared.Shape.{Shape}
 use Rattle.steps.specs.Steps.{Table, base}
+use Rattle.steps.specs.Models.{circuit, ofModel, of-both}
 use Rattle.window.specs.Lists.{over}
 use Rattle.window.specs.Window.{alone, unused, maxSlots}
 use Rattle.window.specs.declared.Stage.the-variants.{Rest}
@@ -16,9 +17,9 @@ use Rattle.window.specs.declared.Window.{Window}
 abbrev pub slotsOf : Table → ℕ
 slotsOf T = max maxSlots (T .kinds * maxNodes)
 
-pub slots-base : slotsOf base ≡ maxSlots
-unfolding base
-slots-base = refl
+pub slots-model : (m : ℕ) → slotsOf (ofModel m) ≡ maxSlots
+unfolding base circuit
+slots-model m = of-both (λ (T : Table). slotsOf T ≡ maxSlots) m refl refl
 
 -- stage rest; each node its own cluster with mark its number and pointer C; everything else 0 or false, the measured sheet too; next round s
 unfoldable pub freshWindow : Table → Shape → Window
@@ -37,7 +38,7 @@ freshWindow T sh =
 unfoldable pub noWindow : Window
 noWindow =
     record {
-      shape = record { height = 0; distance = 0 };
+      shape = record { height = 0; distance = 0; model = 0 };
       stage = Rest;
       next = 0;
       nodes = replicate maxNodes unused;

@@ -27,7 +27,7 @@ module _ (T : Table) (w : Window) where
       let r = to w T (namer T (slotKind (size w) e)) g in
       gains r (getD (w .growth) e 0) (at w g) (at w (r .node))
 
-  -- a bottom node whose pointer is D gets mark reset and pointer C
+  -- a bottom node whose pointer has a D gets mark reset and pointer C
   unfoldable pub grownNode : ℕ → Node
   grownNode g = if (bottom w g && falls T (at w g .pointer)) (cut (at w g)) (at w g)
 

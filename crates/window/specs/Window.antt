@@ -15,9 +15,9 @@ use Rattle.window.specs.declared.Node.{Node}
 use Rattle.window.specs.declared.Window.{Window}
 use Rattle.window.specs.declared.Way.{Way}
 
--- the slots of the largest shape
+-- the slots of the largest shape, with six kinds of edges
 abbrev pub maxSlots : ℕ
-maxSlots = 3 * maxNodes
+maxSlots = 6 * maxNodes
 
 -- the last number that a next round can have
 abbrev pub maxNext : ℕ

@@ -8,8 +8,8 @@ ghost use Rattle.shape.specs.Sizes.{sheetsOf};
 ghost use Rattle.window.specs.Lists.{bit as bitOf};
 ghost use Rattle.window.specs.Window.{alone as aloneOf, isRest, isToGrow, isMerging, supplied as suppliedOf, ledTo};
 
-// The slots of the largest shape.
-pub const MAX_SLOTS: usize = 3 * MAX_NODES;
+// The slots of the largest shape, with six kinds of edges.
+pub const MAX_SLOTS: usize = 6 * MAX_NODES;
 
 // The last number that a next round can have.
 pub const MAX_NEXT: u32 = 4294967295;
@@ -20,7 +20,7 @@ pub enum Mark {
     Root(u16),
 }
 
-// Pointers are 0 for C, and the places of N, W, E, S, D, U in the scan order, from 1.
+// Pointers are 0 for C, and the places in the scan order of the window's model, from 1.
 pub struct Node {
     pub active: bool,
     pub defect: bool,

@@ -20,8 +20,9 @@ use Rattle.shape.specs.Totals.{by-sheets}
 use Rattle.shape.specs.declared.Shape.{Shape}
 use Rattle.list.specs.Sheet.{areBits}
 use Rattle.record.specs.Calls.{writeResult, asResult}
-use Rattle.steps.specs.Steps.{base, step, namer}
-use Rattle.layers.specs.Document.{count-0}
+use Rattle.steps.specs.Steps.{step, namer}
+use Rattle.steps.specs.Models.{ofModel}
+use Rattle.layers.specs.Document.{count-model}
 use Rattle.layers.specs.Layers.{edgeOf, layerEdges, number-has, spans-inside}
 use Rattle.window.specs.Lists.{from, byPlace, every, any, bit}
 use Rattle.window.specs.LawsLists.{length-by, bits-by, every-none, every-at}
@@ -94,7 +95,7 @@ none-at f (suc n) e j l =
     let p = neither (any n f) (f n) e in
     ⊎-elim (λ y. none-at f n (p .0) j y) (λ y. let q : n ≡ j = omega arith in ap f (sym q) ∙ p .1) (order j n)
 
-module _ (h d : ℕ) (ok : inRange h d ≡ true) (z : Sizes) (ez : z ≡ sizesOf base h d) (table : List ℕ) (F : Filled base h d table) where
+module _ (m h d : ℕ) (ok : inRange h d ≡ true) (z : Sizes) (ez : z ≡ sizesOf (ofModel m) h d) (table : List ℕ) (F : Filled (ofModel m) h d table) where
   abbrev r : Ranged h d
   r = ranged h d ok
 
@@ -115,13 +116,13 @@ module _ (h d : ℕ) (ok : inRange h d ≡ true) (z : Sizes) (ez : z ≡ sizesOf
     pub place-lt : place < z .sheet
     pub is : placeIn table i ≡ kind * plane + bottomOf z + place
 
-  pub below : (i : ℕ) → i < layerEdgesOf h d → Below i
+  pub below : (i : ℕ) → i < layerEdgesOf m h d → Below i
   unfolding indexOf
-  below i m =
-      let l : i < layerEdges base h d = omega (arith, count-0 h d) in
-      let e = edgeOf base h d i in
-      let n = number-has base h d (r .h1) i l in
-      let t = spans-inside h d (step base (namer base (e .kind))) (e .row) (e .column) (n .there) in
+  below i q =
+      let l : i < layerEdges (ofModel m) h d = omega (arith, count-model m h d) in
+      let e = edgeOf (ofModel m) h d i in
+      let n = number-has (ofModel m) h d (r .h1) i l in
+      let t = spans-inside h d (step (ofModel m) (namer (ofModel m) (e .kind))) (e .row) (e .column) (n .there) in
       let row = t .0 in
       let column = t .1 in
       let k = ap (λ (y : Sizes). y .kinds) ez in
@@ -133,9 +134,9 @@ module _ (h d : ℕ) (ok : inRange h d ≡ true) (z : Sizes) (ez : z ≡ sizesOf
         is = F .places i l ∙ omega (arith, sheets-are h d ok, by-sheets h (d + 1) s, add-mul (s * h) (e .row) (d + 1), nodes-is, sheet-is);
       }
 
-  pub place-low : (i : ℕ) → i < layerEdgesOf h d → placeIn table i < 27648
-  place-low i m =
-      let b = below i m in
+  pub place-low : (i : ℕ) → i < layerEdgesOf m h d → placeIn table i < 27648
+  place-low i q =
+      let b = below i q in
       let k = b .kind-lt in
       let p = b .place-lt in
       let six = F .safe .kinds in
@@ -144,7 +145,7 @@ module _ (h d : ℕ) (ok : inRange h d ≡ true) (z : Sizes) (ez : z ≡ sizesOf
 
   module _ (nodes edges : List ℕ) where
     -- THE SHOWN WINDOW'S
-    module _ (sh : Shape) (eh : sh .height ≡ h) (ed : sh .distance ≡ d) (w : Window) (e : w .shape ≡ sh) (marks : List ℕ) (H : Shows base w (stateOf nodes marks edges)) where
+    module _ (sh : Shape) (eh : sh .height ≡ h) (ed : sh .distance ≡ d) (w : Window) (e : w .shape ≡ sh) (marks : List ℕ) (H : Shows (ofModel m) w (stateOf nodes marks edges)) where
       high : w .shape .height ≡ h
       high = ap (λ (x : Shape). x .height) e ∙ eh
 
@@ -154,19 +155,19 @@ module _ (h d : ℕ) (ok : inRange h d ≡ true) (z : Sizes) (ez : z ≡ sizesOf
       rangeW : Ranged (w .shape .height) (w .shape .distance)
       rangeW = rw (high, wide) r
 
-      filledW : Filled base (w .shape .height) (w .shape .distance) table
+      filledW : Filled (ofModel m) (w .shape .height) (w .shape .distance) table
       filledW = rw (high, wide) F
 
-      pub committed-is : committedIn table edges (layerEdgesOf h d) ≡ committedEdges base w
+      pub committed-is : committedIn table edges (layerEdgesOf m h d) ≡ committedEdges (ofModel m) w
       committed-is =
-          sym (committed-shown base w rangeW (stateOf nodes marks edges) H (placeIn table) (λ i l. filledW .places i l)
-          ∙ ap (λ (n : ℕ). byPlace n (λ i. bit (correctionOf (getD edges (placeIn table i) 0)))) (count-0 (w .shape .height) (w .shape .distance) ∙ rw (high, wide) refl))
+          sym (committed-shown (ofModel m) w rangeW (stateOf nodes marks edges) H (placeIn table) (λ i l. filledW .places i l)
+          ∙ ap (λ (n : ℕ). byPlace n (λ i. bit (correctionOf (getD edges (placeIn table i) 0)))) (count-model m (w .shape .height) (w .shape .distance) ∙ rw (high, wide) refl))
 
       pub escaped-is : escapedIn z h d nodes ≡ escapedDefects w
       escaped-is =
-          sym (escaped-shown base w rangeW (stateOf nodes marks edges) H
-          ∙ ap (λ (x : ℕ). escapedIn (sizesOf base x (w .shape .distance)) x (w .shape .distance) nodes) high
-          ∙ ap (λ (x : ℕ). escapedIn (sizesOf base h x) h x nodes) wide
+          sym (escaped-shown (ofModel m) w rangeW (stateOf nodes marks edges) H
+          ∙ ap (λ (x : ℕ). escapedIn (sizesOf (ofModel m) x (w .shape .distance)) x (w .shape .distance) nodes) high
+          ∙ ap (λ (x : ℕ). escapedIn (sizesOf (ofModel m) h x) h x nodes) wide
           ∙ ap (λ (y : Sizes). escapedIn y h d nodes) (sym ez))
 
     -- NOTHING LEAVES
@@ -174,9 +175,9 @@ module _ (h d : ℕ) (ok : inRange h d ≡ true) (z : Sizes) (ez : z ≡ sizesOf
       both : (quietOf z nodes ≡ true) × (every (z .kinds) (blankOf z edges) ≡ true)
       both = halves (quietOf z nodes) _ t
 
-      pub none-committed : committedIn table edges (layerEdgesOf h d) ≡ replicate (layerEdgesOf h d) 0
+      pub none-committed : committedIn table edges (layerEdgesOf m h d) ≡ replicate (layerEdgesOf m h d) 0
       none-committed =
-          zeros-by (λ i. bit (correctionOf (getD edges (placeIn table i) 0))) (layerEdgesOf h d)
+          zeros-by (λ i. bit (correctionOf (getD edges (placeIn table i) 0))) (layerEdgesOf m h d)
           (λ i l.
           let b = below i l in
           let n = not-true _ (every-at (blankOf z edges) (z .kinds) (both .1) (b .kind) (b .kind-lt)) in

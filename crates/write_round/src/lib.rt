@@ -15,8 +15,9 @@ ghost use Prim.Native.Nat.{ℕ, _≤_};
 ghost use lib.ListN.{length};
 ghost use Rattle.shape.specs.Sizes.{inRange, detectorsOf, layerEdgesOf};
 ghost use Rattle.number.specs.Number.{writtenBuffered};
+ghost use Rattle.record.specs.Records.{IsShape};
 ghost use Rattle.record.specs.Calls.{writeResult, asResult};
-ghost use Rattle.steps.specs.Steps.{base};
+ghost use Rattle.steps.specs.Models.{ofModel};
 ghost use Rattle.window.specs.Round.{committedEdges, escapedDefects};
 ghost use Rattle.window.specs.declared.Window.{Window};
 ghost use Rattle.flat.specs.Entries.{stateOf};
@@ -37,11 +38,11 @@ fn leave_bits(
     out_escapes: &mut [u8],
 )
     requires { ⌜ inRange (shape .height) (shape .distance) ≡ true ⌝ }
-    requires { ⌜ z ≡ sizesOf base (shape .height) (shape .distance) ⌝ }
-    requires { ⌜ Filled base (shape .height) (shape .distance) (now table) ⌝ }
-    requires { ⌜ length (now «out_edges») ≡ layerEdgesOf (shape .height) (shape .distance) ⌝ }
+    requires { ⌜ z ≡ sizesOf (ofModel (shape .model)) (shape .height) (shape .distance) ⌝ }
+    requires { ⌜ Filled (ofModel (shape .model)) (shape .height) (shape .distance) (now table) ⌝ }
+    requires { ⌜ length (now «out_edges») ≡ layerEdgesOf (shape .model) (shape .height) (shape .distance) ⌝ }
     requires { ⌜ length (now «out_escapes») ≡ detectorsOf (shape .height) (shape .distance) ⌝ }
-    ensures { λ _. ⌜ now («out_edges» .exit) ≡ committedIn (now (table .entry)) (now (edges .entry)) (layerEdgesOf (shape .height) (shape .distance)) ⌝ }
+    ensures { λ _. ⌜ now («out_edges» .exit) ≡ committedIn (now (table .entry)) (now (edges .entry)) (layerEdgesOf (shape .model) (shape .height) (shape .distance)) ⌝ }
     ensures { λ _. ⌜ now («out_escapes» .exit) ≡ escapedIn z (shape .height) (shape .distance) (now (nodes .entry)) ⌝ }
 {
     leave::commit(edges, table, out_edges);
@@ -59,12 +60,12 @@ pub fn leave_round(
     out_escapes: &mut [u8],
 )
     requires { ⌜ inRange (shape .height) (shape .distance) ≡ true ⌝ }
-    requires { ⌜ z ≡ sizesOf base (shape .height) (shape .distance) ⌝ }
-    requires { ⌜ Filled base (shape .height) (shape .distance) (now table) ⌝ }
-    requires { ⌜ length (now «out_edges») ≡ layerEdgesOf (shape .height) (shape .distance) ⌝ }
+    requires { ⌜ z ≡ sizesOf (ofModel (shape .model)) (shape .height) (shape .distance) ⌝ }
+    requires { ⌜ Filled (ofModel (shape .model)) (shape .height) (shape .distance) (now table) ⌝ }
+    requires { ⌜ length (now «out_edges») ≡ layerEdgesOf (shape .model) (shape .height) (shape .distance) ⌝ }
     requires { ⌜ length (now «out_escapes») ≡ detectorsOf (shape .height) (shape .distance) ⌝ }
-    ensures { λ _. ⌜ ((w : Window) → w .shape ≡ shape → (marks : List ℕ) → Shows base w (stateOf (now (nodes .entry)) marks (now (edges .entry))) → now («out_edges» .exit) ≡ committedEdges base w) ⌝ }
-    ensures { λ _. ⌜ ((w : Window) → w .shape ≡ shape → (marks : List ℕ) → Shows base w (stateOf (now (nodes .entry)) marks (now (edges .entry))) → now («out_escapes» .exit) ≡ escapedDefects w) ⌝ }
+    ensures { λ _. ⌜ ((w : Window) → w .shape ≡ shape → (marks : List ℕ) → Shows (ofModel (shape .model)) w (stateOf (now (nodes .entry)) marks (now (edges .entry))) → now («out_edges» .exit) ≡ committedEdges (ofModel (shape .model)) w) ⌝ }
+    ensures { λ _. ⌜ ((w : Window) → w .shape ≡ shape → (marks : List ℕ) → Shows (ofModel (shape .model)) w (stateOf (now (nodes .entry)) marks (now (edges .entry))) → now («out_escapes» .exit) ≡ escapedDefects w) ⌝ }
 {
     leave_bits(shape, z, nodes, edges, table, out_edges, out_escapes);
 }
@@ -99,13 +100,13 @@ fn write_parts(
     out: &mut [u8],
     to: usize,
 ) -> Wrote
-    requires { ⌜ inRange (shape .height) (shape .distance) ≡ true ⌝ }
-    requires { ⌜ z ≡ sizesOf base (shape .height) (shape .distance) ⌝ }
-    requires { ⌜ Filled base (shape .height) (shape .distance) (now table) ⌝ }
-    requires { ⌜ length (now committed) ≡ layerEdgesOf (shape .height) (shape .distance) ⌝ }
+    requires { ⌜ IsShape shape ⌝ }
+    requires { ⌜ z ≡ sizesOf (ofModel (shape .model)) (shape .height) (shape .distance) ⌝ }
+    requires { ⌜ Filled (ofModel (shape .model)) (shape .height) (shape .distance) (now table) ⌝ }
+    requires { ⌜ length (now committed) ≡ layerEdgesOf (shape .model) (shape .height) (shape .distance) ⌝ }
     requires { ⌜ length (now escaped) ≡ detectorsOf (shape .height) (shape .distance) ⌝ }
     requires { ⌜ to ≤ length (now out) ⌝ }
-    ensures { λ r. ⌜ writtenBuffered r (now (out .exit)) ≡ writeResult shape (asResult (committedIn (now (table .entry)) (now (edges .entry)) (layerEdgesOf (shape .height) (shape .distance))) (escapedIn z (shape .height) (shape .distance) (now (nodes .entry))) steps) (now (out .entry)) to ⌝ }
+    ensures { λ r. ⌜ writtenBuffered r (now (out .exit)) ≡ writeResult shape (asResult (committedIn (now (table .entry)) (now (edges .entry)) (layerEdgesOf (shape .model) (shape .height) (shape .distance))) (escapedIn z (shape .height) (shape .distance) (now (nodes .entry))) steps) (now (out .entry)) to ⌝ }
 {
     leave_bits(shape, z, nodes, edges, table, committed, escaped);
     result_writer::put_round(shape, committed, escaped, steps, out, to)
@@ -122,11 +123,11 @@ fn write_lists(
     out: &mut [u8],
     to: usize,
 ) -> Wrote
-    requires { ⌜ inRange (shape .height) (shape .distance) ≡ true ⌝ }
-    requires { ⌜ z ≡ sizesOf base (shape .height) (shape .distance) ⌝ }
-    requires { ⌜ Filled base (shape .height) (shape .distance) (now table) ⌝ }
+    requires { ⌜ IsShape shape ⌝ }
+    requires { ⌜ z ≡ sizesOf (ofModel (shape .model)) (shape .height) (shape .distance) ⌝ }
+    requires { ⌜ Filled (ofModel (shape .model)) (shape .height) (shape .distance) (now table) ⌝ }
     requires { ⌜ to ≤ length (now out) ⌝ }
-    ensures { λ r. ⌜ writtenBuffered r (now (out .exit)) ≡ writeResult shape (asResult (committedIn (now (table .entry)) (now (edges .entry)) (layerEdgesOf (shape .height) (shape .distance))) (escapedIn z (shape .height) (shape .distance) (now (nodes .entry))) steps) (now (out .entry)) to ⌝ }
+    ensures { λ r. ⌜ writtenBuffered r (now (out .exit)) ≡ writeResult shape (asResult (committedIn (now (table .entry)) (now (edges .entry)) (layerEdgesOf (shape .model) (shape .height) (shape .distance))) (escapedIn z (shape .height) (shape .distance) (now (nodes .entry))) steps) (now (out .entry)) to ⌝ }
 {
     let n = extent::layer_edges(shape);
     let m = extent::detectors(shape);
@@ -157,11 +158,11 @@ pub fn write(
     out: &mut [u8],
     to: usize,
 ) -> Wrote
-    requires { ⌜ inRange (shape .height) (shape .distance) ≡ true ⌝ }
-    requires { ⌜ z ≡ sizesOf base (shape .height) (shape .distance) ⌝ }
-    requires { ⌜ Filled base (shape .height) (shape .distance) (now table) ⌝ }
+    requires { ⌜ IsShape shape ⌝ }
+    requires { ⌜ z ≡ sizesOf (ofModel (shape .model)) (shape .height) (shape .distance) ⌝ }
+    requires { ⌜ Filled (ofModel (shape .model)) (shape .height) (shape .distance) (now table) ⌝ }
     requires { ⌜ to ≤ length (now out) ⌝ }
-    ensures { λ r. ⌜ ((w : Window) → w .shape ≡ shape → (marks : List ℕ) → Shows base w (stateOf (now (nodes .entry)) marks (now (edges .entry))) → writtenBuffered r (now (out .exit)) ≡ writeResult shape (asResult (committedEdges base w) (escapedDefects w) steps) (now (out .entry)) to) ⌝ }
+    ensures { λ r. ⌜ ((w : Window) → w .shape ≡ shape → (marks : List ℕ) → Shows (ofModel (shape .model)) w (stateOf (now (nodes .entry)) marks (now (edges .entry))) → writtenBuffered r (now (out .exit)) ≡ writeResult shape (asResult (committedEdges (ofModel (shape .model)) w) (escapedDefects w) steps) (now (out .entry)) to) ⌝ }
 {
     if is_still(z, nodes, edges) {
         return result_writer::write_quiet(shape, steps, out, to);

@@ -1,6 +1,6 @@
 //! Raw rounds among plain ones, and lists of calls with the one kind and with the other.
 
-use super::{entry_line, Script, ROUNDS};
+use super::{entry_line, Extent, Script, ROUNDS};
 use crate::decoder::Stage;
 use crate::image::{self, Entry, DETECTORS};
 use crate::random::Random;
@@ -10,8 +10,8 @@ use crate::streams::Shape;
 /// Random calls from a fresh window on, with plain rounds, so many bytes in a hundred set: refused calls among them,
 /// and edits. There are so many calls, and more until so many rounds are received.
 pub fn plain_list(shape: Shape, percent: usize, calls: usize, rounds: usize, random: &mut Random) -> String {
-    let mut list = Script::default();
-    list.add(format!("open {} {}", shape.height, shape.distance));
+    let mut list = Script::new(shape.model, Extent::All, 0);
+    list.open(shape.height, shape.distance);
     (0..calls).for_each(|_| list.random_call(percent, random));
     while (list.image().next as usize) < shape.sheets() + rounds {
         list.random_call(percent, random);
@@ -52,6 +52,9 @@ fn sum(bytes: &str, measured: &str) -> String {
     };
     bytes.chars().zip(bits).map(add).collect()
 }
+
+/// By this seed every refusal comes with ones in the last measured sheet, for both models; `tests/replay.rs` asserts it.
+const LISTS: u64 = 2_804;
 
 impl Script {
     /// A call that is due, mostly; or one that may not be, an edit, or calls on a window that refuses them.
@@ -129,7 +132,11 @@ impl Script {
         let present = self.outline().present();
         let absent = shape.sheets() - present;
         let [edit, back] = match random.below(7) {
-            0 => ["dims 0 3".into(), format!("dims {} {}", shape.height, shape.distance)],
+            0 => {
+                let [h, d, model] = shape.name();
+                [random.pick(&[[0, 3, model], [h, d, 2]]), shape.name()]
+                    .map(|[h, d, model]| format!("dims {h} {d} {model}"))
+            }
             1 => ["next 1".into(), format!("next {next}")],
             2 => ["halves 1 1", "halves 1 0"].map(String::from),
             3 => [1, 0].map(|bit| format!("last {unused} {bit}")),
@@ -148,18 +155,21 @@ impl Script {
     /// All that a round call can be refused for, and one after another of these taken away.
     pub(super) fn in_order(&mut self) {
         self.add("# both round calls with every fault at once, then without the first of them, and so on");
-        self.add("open 1 3");
+        self.open(1, 3);
         self.receive("raw", "11");
         self.settle();
         let next = format!("next {}", self.image().next);
-        let steps: [(&[&str], &str, u8); 7] = [
-            (&["stage 1", "next 4294967295", "last 2 1"], "4 1 2", 21),
-            (&["last 2 0"], "4 1 2", 22),
-            (&["stage 0"], "4 1 2", 23),
-            (&[&next], "4 1 2", 3),
-            (&[], "4 1 21", 5),
-            (&[], "5 1 21", 6),
-            (&[], "5 2 21", 4),
+        let edges = self.shape().edges();
+        let [both, escapes, none] =
+            [(edges - 1, 1), (edges, 1), (edges, 2)].map(|(edges, escapes)| format!("{edges} {escapes}"));
+        let steps: [(&[&str], String, u8); 7] = [
+            (&["stage 1", "next 4294967295", "last 2 1"], format!("{both} 2"), 21),
+            (&["last 2 0"], format!("{both} 2"), 22),
+            (&["stage 0"], format!("{both} 2"), 23),
+            (&[&next], format!("{both} 2"), 3),
+            (&[], format!("{both} 21"), 5),
+            (&[], format!("{escapes} 21"), 6),
+            (&[], format!("{none} 21"), 4),
         ];
         for (edits, arguments, refusal) in steps {
             edits.iter().for_each(|edit| _ = self.add(edit));
@@ -175,29 +185,32 @@ impl Script {
     /// Random sessions in which either kind of round comes at random.
     pub(super) fn mixed(&mut self) {
         self.add("# random sessions with rounds of both kinds");
-        let cases = [(1, 3, 40, 12), (2, 2, 30, 12), (3, 3, 50, 12), (5, 5, 10, 12), (15, 15, 10, 6)];
-        for (case, (height, distance, percent, rounds)) in cases.into_iter().enumerate() {
-            let mut random = Random::new(7, case as u64);
-            self.add(format!("open {height} {distance}"));
+        let cases = [(1, 3, 40, 12), (2, 2, 30, 12), (3, 3, 50, 12), (5, 5, 10, 12), (15, 15, 10, 4)];
+        for (case, (height, distance, percent, rounds)) in self.cases(cases) {
+            let mut random = self.random(7, case);
+            self.open(height, distance);
             for _ in 0..rounds {
                 let call = random.pick(&ROUNDS);
                 self.noise(call, &mut random, percent);
                 self.settle();
             }
         }
-        // By this seed the last detector of 15 by 15 is measured 1: no shape has a later one.
-        assert!(self.image().measured[DETECTORS - 1]);
+        // The last detector of 15 by 15 is measured 1: no shape has a later one.
+        if self.shape().detectors() == DETECTORS {
+            self.receive("raw", &format!("{:0>DETECTORS$}", 1));
+            assert!(self.image().measured[DETECTORS - 1]);
+            self.settle();
+        }
     }
 
     /// Lists of calls, each followed by the same with raw rounds.
     pub(super) fn lists(&mut self) {
-        for (case, (height, distance)) in [(1, 2), (1, 3), (3, 3)].into_iter().enumerate() {
-            // By this seed every refusal comes with ones in the last measured sheet; `tests/replay.rs` asserts it.
-            let mut random = Random::new(2_804, case as u64);
-            let plain = plain_list(Shape { height, distance }, 40, 30, 0, &mut random);
-            self.add(format!("# defects, {height} by {distance}"));
+        for (case, (height, distance)) in self.cases([(1, 2), (1, 3), (3, 3)]) {
+            let shape = Shape { height, distance, model: self.model };
+            let plain = plain_list(shape, 40, 30, 0, &mut self.random(LISTS, case));
+            self.add(format!("# defects, {height} by {distance} of model {}", self.model));
             plain.lines().for_each(|line| _ = self.add(line));
-            self.add(format!("# measurements, {height} by {distance}"));
+            self.add(format!("# measurements, {height} by {distance} of model {}", self.model));
             raw_list(&plain, || true).lines().for_each(|line| _ = self.add(line));
         }
         self.add("# the lists' end");

@@ -13,7 +13,7 @@ impl Script {
     pub(super) fn printed(&mut self) {
         self.add("# sessions and edges of document 01: the first session by run, its third round with 4 steps, and with 3 and one more");
         for last in [["run 4"].as_slice(), &["run 3", "merging 1"]] {
-            self.add("open 1 3");
+            self.open(1, 3);
             for bytes in ["10", "00"] {
                 self.round(bytes);
                 self.add("run 65536");
@@ -22,7 +22,7 @@ impl Script {
             last.iter().for_each(|call| _ = self.add(call));
         }
         self.add("# 1 by 3: 1, 3 and 2 bytes; grow at rest; the last round but one");
-        self.add("open 1 3");
+        self.open(1, 3);
         for call in ["round 5 2 1", "round 5 2 101", "grow", "next 4294967294", "round 5 2 10"] {
             self.add(call);
         }
@@ -42,16 +42,16 @@ impl Script {
         let cases = [
             (1, 2, 50, 10),
             (1, 3, 40, 10),
-            (2, 2, 40, 10),
             (3, 3, 20, 20),
-            (2, 5, 20, 10),
+            (2, 2, 40, 10),
             (5, 4, 10, 10),
+            (2, 5, 20, 10),
+            (15, 15, 2, 5),
             (7, 7, 5, 10),
-            (15, 15, 2, 10),
         ];
-        for (case, (height, distance, percent, rounds)) in cases.into_iter().enumerate() {
-            let mut random = Random::new(0x72756e, case as u64);
-            self.add(format!("open {height} {distance}"));
+        for (case, (height, distance, percent, rounds)) in self.cases(cases) {
+            let mut random = self.random(0x72756e, case);
+            self.open(height, distance);
             for round in 0..rounds {
                 self.add(format!("run {}", random.number()));
                 self.noise("round", &mut random, percent);

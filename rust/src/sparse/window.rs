@@ -1,9 +1,9 @@
 //! The window and its rules.
 
 use super::tables::{
-    each_way, entry, named, opposite, place_of, sheet_of, slot, Tables, CENTRE, DOWN, DOWNWARD, ENTRIES, RAISE, RESET,
-    SHEET, SHEETS, UPWARD,
+    entry, named, opposite, place_of, sheet_of, slot, Tables, CENTRE, ENTRIES, RAISE, RESET, SHEET, SHEETS,
 };
+use crate::steps::{each_way, ways, Way, Ways, DOWNWARD, UPWARD};
 use crate::streams::{Shape, LARGEST};
 use std::mem::{replace, take};
 
@@ -16,11 +16,15 @@ const LISTED: u8 = 8;
 /// It is in the list of nodes to sync.
 const AWAKE: u8 = 16;
 
-/// What a neighbour's mark makes of a node in the next step: eight times the mark plus the direction that it is seen
+/// What a neighbour's mark makes of a node in the next step: sixteen times the mark plus the direction that it is seen
 /// in, or reset. The lowest stands, as in the scan: reset, else the lowest mark, in the first direction that has it.
 type Offer = u32;
 const NO_OFFER: Offer = u32::MAX;
 const RESET_OFFER: Offer = 0;
+
+fn offered(mark: u16, way: Way) -> Offer {
+    Offer::from(mark) << 4 | Offer::from(way)
+}
 
 /// Edges of a layer by number, 64 to a word.
 const WORDS: usize = LARGEST.edges().div_ceil(64);
@@ -29,17 +33,20 @@ const WORDS: usize = LARGEST.edges().div_ceil(64);
 pub struct Window {
     tables: Tables,
     sheets: u16,
+    /// The words that hold a layer's edges, and the model's directions down.
+    words: usize,
+    downward: Ways,
     /// The top sheet's number, and how many sheets are there, those of supplied rounds.
     top: u16,
     present: u16,
     /// Sheets that are not fresh, a bit for each slot.
     touched: u16,
     flags: [u8; ENTRIES],
-    pointers: [u8; ENTRIES],
+    pointers: [Way; ENTRIES],
     marks: [u16; ENTRIES],
     /// The directions of edges of growth 2, and of those that have or had growth 1.
-    open: [u8; ENTRIES],
-    half: [u8; ENTRIES],
+    open: [Ways; ENTRIES],
+    half: [Ways; ENTRIES],
     corrections: [[u64; WORDS]; SHEETS],
     offers: [Offer; ENTRIES],
     /// Nodes with an offer, which are busy in the next step, and nodes to sync in it.
@@ -59,6 +66,8 @@ impl Window {
         Window {
             tables: Tables::new(shape),
             sheets: shape.sheets() as u16,
+            words: shape.edges().div_ceil(64),
+            downward: DOWNWARD & ((1 << ways(shape.model)) - 1),
             top: RAISE + 1,
             present: 0,
             touched: 0,
@@ -110,7 +119,7 @@ impl Window {
     }
 
     /// The corrections and defects of the sheet that left; nothing if it was fresh.
-    pub fn leaving(&mut self) -> Option<([u64; WORDS], Option<Vec<u8>>)> {
+    pub fn leaving(&mut self) -> Option<(&[u64], Option<Vec<u8>>)> {
         let slot = slot(self.top + self.sheets);
         if self.touched >> slot & 1 == 0 {
             return None;
@@ -119,7 +128,7 @@ impl Window {
         let flags = &self.flags[slot * SHEET..][..SHEET];
         let escapes = flags.iter().fold(0, |all, flags| all | flags) & DEFECT != 0;
         let bit = |&place: &u16| u8::from(flags[usize::from(place)] & DEFECT != 0);
-        Some((self.corrections[slot], escapes.then(|| self.tables.detectors.iter().map(bit).collect())))
+        Some((&self.corrections[slot][..self.words], escapes.then(|| self.tables.detectors.iter().map(bit).collect())))
     }
 
     fn is_touched(&self, sheet: u16) -> bool {
@@ -132,7 +141,7 @@ impl Window {
             return;
         }
         self.touched |= 1 << slot(sheet);
-        self.corrections[slot(sheet)].fill(0);
+        self.corrections[slot(sheet)][..self.words].fill(0);
         let from = slot(sheet) * SHEET;
         self.flags[from..from + SHEET].fill(0);
         self.pointers[from..from + SHEET].fill(CENTRE);
@@ -163,13 +172,13 @@ impl Window {
 
     /// Offers the lower mark of two neighbours to the other. Inlined, or a tenth of all instructions are calls.
     #[inline(always)]
-    fn compare(&mut self, name: u16, mark: u16, way: u8) {
+    fn compare(&mut self, name: u16, mark: u16, way: Way) {
         let there = self.tables.neighbour(name, way);
         let other = self.marks[entry(there)];
         if mark < other {
-            self.offer(there, Offer::from(mark) << 3 | Offer::from(opposite(way)));
+            self.offer(there, offered(mark, opposite(way)));
         } else if other < mark {
-            self.offer(name, Offer::from(other) << 3 | Offer::from(way));
+            self.offer(name, offered(other, way));
         }
     }
 
@@ -229,13 +238,15 @@ impl Window {
         }
         let from = slot(bottom) * SHEET;
         self.open[from..from + SHEET].iter_mut().for_each(|open| *open &= !DOWNWARD);
-        if !self.pointers[from..from + SHEET].iter().fold(false, |any, &pointer| any | (pointer == DOWN)) {
+        let pointers = &self.pointers[from..from + SHEET];
+        let points = |way| pointers.iter().fold(false, |any, &pointer| any | (pointer == way));
+        if !each_way(self.downward).any(points) {
             return;
         }
         for detector in 0..self.detectors() {
             let name = named(bottom, self.tables.detectors[detector]);
             let here = entry(name);
-            if self.pointers[here] == DOWN {
+            if DOWNWARD >> self.pointers[here] & 1 == 1 {
                 self.pointers[here] = CENTRE;
                 self.marks[here] = RESET;
                 self.wake(name);
@@ -335,7 +346,7 @@ impl Window {
         }
         let (mark, pointer) = match offer {
             RESET_OFFER => (RESET, CENTRE),
-            _ => ((offer >> 3) as u16, (offer % 8) as u8),
+            _ => ((offer >> 4) as u16, (offer % 16) as Way),
         };
         self.marks[here] = mark;
         if self.pointers[here] != pointer {

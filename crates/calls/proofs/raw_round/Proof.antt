@@ -1,6 +1,6 @@
 -- `calls::raw_round` meets its contract. `measuring` is opened too, so that a refusal that replaces the sheet is refused for the sheet. Assumes nothing.
 use borrow.Author.Needs.{needs}
-use Rattle.steps.specs.Steps.{base}
+use Rattle.steps.specs.Models.{ofModel}
 use Rattle.window.specs.Measured.{measuring}
 use Rattle.window.specs.Calls.{receivingRaw, rawCall}
 use Rattle.calls.proofs.Rounds.{asks, round-refused, round-done}
@@ -18,7 +18,7 @@ unfolding rawCall measuring
 returns c =
     let t = c .before .before .before in
     let a = t .before .before .before .before .args in
-    round-refused (a .w) (a .bytes .now) (a .edges .now) (a .escapes .now) (receivingRaw base (a .w) (a .bytes .now)) (t .test-round .result) (t .test-round .ensures) (c .before .tested .given .0 .0) (c .before .tested .given .1)
+    round-refused (a .w) (a .bytes .now) (a .edges .now) (a .escapes .now) (receivingRaw (ofModel (a .w .shape .model)) (a .w) (a .bytes .now)) (t .test-round .result) (t .test-round .ensures) (c .before .tested .given .0 .0) (c .before .tested .given .1)
 
 enum-told : tie.Need-enum-told
 enum-told c = search needs
@@ -42,7 +42,7 @@ returns-2 c =
     let e = c .before .before .before .before .before .before .before in
     let t = e .before .before in
     let a = t .before .before .before .before .args in
-    round-done (a .w) (a .bytes .now) (a .edges .now) (a .escapes .now) (receivingRaw base (a .w) (a .bytes .now)) (t .test-round .result) (t .test-round .ensures) _ (e .enum-told .given .1) (c .before .before .before .before .raw .ensures)
+    round-done (a .w) (a .bytes .now) (a .edges .now) (a .escapes .now) (receivingRaw (ofModel (a .w .shape .model)) (a .w) (a .bytes .now)) (t .test-round .result) (t .test-round .ensures) _ (e .enum-told .given .1) (c .before .before .before .before .raw .ensures)
 
 pub raw-round-spec : {M : Type 1} → statement M
 raw-round-spec =

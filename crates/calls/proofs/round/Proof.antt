@@ -1,6 +1,6 @@
 -- `calls::round` meets its contract. Assumes nothing.
 use borrow.Author.Needs.{needs}
-use Rattle.steps.specs.Steps.{base}
+use Rattle.steps.specs.Models.{ofModel}
 use Rattle.window.specs.Calls.{receiving, roundCall}
 use Rattle.calls.proofs.Rounds.{asks, round-refused, round-done}
 use Rattle.calls.proofs.round.Statement.{statement}
@@ -17,7 +17,7 @@ unfolding roundCall
 returns c =
     let t = c .before .before .before in
     let a = t .before .before .before .before .args in
-    round-refused (a .w) (a .bytes .now) (a .edges .now) (a .escapes .now) (receiving base (a .w) (a .bytes .now)) (t .test-round .result) (t .test-round .ensures) (c .before .tested .given .0 .0) (c .before .tested .given .1)
+    round-refused (a .w) (a .bytes .now) (a .edges .now) (a .escapes .now) (receiving (ofModel (a .w .shape .model)) (a .w) (a .bytes .now)) (t .test-round .result) (t .test-round .ensures) (c .before .tested .given .0 .0) (c .before .tested .given .1)
 
 enum-told : tie.Need-enum-told
 enum-told c = search needs
@@ -41,7 +41,7 @@ returns-2 c =
     let e = c .before .before .before .before .before .before .before in
     let t = e .before .before in
     let a = t .before .before .before .before .args in
-    round-done (a .w) (a .bytes .now) (a .edges .now) (a .escapes .now) (receiving base (a .w) (a .bytes .now)) (t .test-round .result) (t .test-round .ensures) _ (e .enum-told .given .1) (c .before .before .before .before .round .ensures)
+    round-done (a .w) (a .bytes .now) (a .edges .now) (a .escapes .now) (receiving (ofModel (a .w .shape .model)) (a .w) (a .bytes .now)) (t .test-round .result) (t .test-round .ensures) _ (e .enum-told .given .1) (c .before .before .before .before .round .ensures)
 
 pub round-spec : {M : Type 1} → statement M
 round-spec =

@@ -8,7 +8,7 @@ use borrow.Author.Needs.{needs}
 use lib.ListN.{length}
 use Rattle.refusal.specs.Bytes.{Bytes}
 use Rattle.refusal.specs.Laws.{undone}
-use Rattle.steps.specs.Steps.{base}
+use Rattle.steps.specs.Models.{ofModel}
 use Rattle.decoding.specs.Answers.{RoundsReturned}
 use Rattle.decoding.specs.Decoding.{rounds}
 use Rattle.decoding.specs.Resumed.{onward}
@@ -74,8 +74,8 @@ loop-less c =
     let a = c .before .before .before .before .before .before .before .before .before .before .before .before .before .args in
     let l = c .before .before .before .before .before .before .before .before .before .before .loop in
     let r = c .before .before .before .before .before .before .before .before .decode-rounds in
-    let o = onward base (a .src .now) (bytes (c .before .before .before .before .before .before .before .before .before .before .before .before)) (length (l .out)) (l .window) (l .at) (l .to) in
-    let out = length (rounds base (a .src .now) (length (l .out)) (l .window) (l .at) (l .to) .output) in
+    let o = onward (ofModel (l .window .shape .model)) (a .src .now) (bytes (c .before .before .before .before .before .before .before .before .before .before .before .before)) (length (l .out)) (l .window) (l .at) (l .to) in
+    let out = length (rounds (ofModel (l .window .shape .model)) (a .src .now) (length (l .out)) (l .window) (l .at) (l .to) .output) in
     let n = ap (λ (p : RoundsReturned). p .next) (r .ensures) in
     let e = ap (λ (p : RoundsReturned). p .behind) (r .ensures) in
     less (length (a .src .now)) (l .at) (r .result .at) (l .to) out (omega (arith, o .still, n)) (λ p. let g = o .forward p in (omega (arith, g .0, n), omega (arith, g .1, n))) (some (c .before .is-full .result) (r .result .to) (c .if2 .left) e)

@@ -15,8 +15,8 @@ stream-requires c κs = search needs
 
 returns : tie.Need-returns
 returns c =
-    let a = c .before .before .before .before .before .before .before .args in
-    c .stream .ensures ∙ ap (λ (x : Answer Scanned). scanBy x (a .height .now) (a .distance .now) (a .rounds .now) (a .place .now)) (c .before .before .before .before .before .scan-input .ensures)
+    let a = c .before .before .before .before .before .before .before .before .args in
+    c .stream .ensures ∙ ap (λ (x : Answer Scanned). scanBy x (a .height .now) (a .distance .now) (a .model .now) (a .rounds .now) (a .place .now)) (c .before .before .before .before .before .before .scan-input .ensures)
 
 pub baizeridge-scan-input-spec : {M : Type 1} → statement M
 baizeridge-scan-input-spec = tie.close (tie.spec scan-input-requires stream-requires returns)

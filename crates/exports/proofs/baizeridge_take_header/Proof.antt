@@ -12,9 +12,9 @@ header-requires c κs = search needs
 
 returns : tie.Need-returns
 returns c =
-    let a = c .before .before .before .before .before .before .before .args in
-    let t = c .before .before .before .before .take-header .ensures in
-    header-out (a .at .now) (a .place .now) (a .height .now) (a .distance .now) (t .0) (c .header .ensures) (t .1)
+    let a = c .before .before .before .before .before .before .before .before .args in
+    let t = c .before .before .before .before .before .take-header .ensures in
+    header-out (a .at .now) (a .place .now) (a .height .now) (a .distance .now) (a .model .now) (t .0) (c .header .ensures) (t .1)
 
 pub baizeridge-take-header-spec : {M : Type 1} → statement M
 baizeridge-take-header-spec = tie.close (tie.spec take-header-requires header-requires returns)

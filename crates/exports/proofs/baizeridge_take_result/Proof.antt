@@ -25,7 +25,7 @@ returns : tie.Need-returns
 returns c =
     let a = c .before .before .before .before .before .before .before .before .before .before .before .before .before .before .before .args in
     let t = c .before .before .before .before .before .before .before .take-result .ensures in
-    let e = t .0 ∙ result-read (a .height) (a .distance) (c .before .before .before .before .before .before .before .before .before .before .before .shape-by .ensures) (a .src .now) (a .at .now) (a .edges .now) (a .escapes .now) in
+    let e = t .0 ∙ result-read (a .height) (a .distance) (a .model) (c .before .before .before .before .before .before .before .before .before .before .before .shape-by .ensures) (a .src .now) (a .at .now) (a .edges .now) (a .escapes .now) in
     result-out (a .at .now) (a .place .now) (a .steps .now) e (c .result .ensures) (t .1)
 
 pub baizeridge-take-result-spec : {M : Type 1} → statement M

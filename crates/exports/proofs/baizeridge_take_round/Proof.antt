@@ -22,7 +22,7 @@ returns : tie.Need-returns
 returns c =
     let a = c .before .before .before .before .before .before .before .before .before .before .args in
     let t = c .before .before .before .before .take-round .ensures in
-    let e = t .0 ∙ round-read (a .height) (a .distance) (c .before .before .before .before .before .before .before .shape-by .ensures) (a .src .now) (a .at .now) (a .defects .now) in
+    let e = t .0 ∙ round-read (a .height) (a .distance) (a .model) (c .before .before .before .before .before .before .before .shape-by .ensures) (a .src .now) (a .at .now) (a .defects .now) in
     round-out (a .at .now) (a .place .now) e (c .round .ensures) (t .1)
 
 pub baizeridge-take-round-spec : {M : Type 1} → statement M

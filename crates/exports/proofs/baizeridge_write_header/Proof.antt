@@ -21,7 +21,7 @@ same-length c = search needs
 returns : tie.Need-returns
 returns c =
     let a = c .before .before .before .before .before .before .before .before .args in
-    let e = c .before .before .before .before .write-header .ensures ∙ header-written (a .height) (a .distance) (c .before .before .before .before .before .before .shape-by .ensures) (a .out .now) (a .at) in
+    let e = c .before .before .before .before .write-header .ensures ∙ header-written (a .height) (a .distance) (a .model) (c .before .before .before .before .before .before .shape-by .ensures) (a .out .now) (a .at) in
     buffer-out (a .place .now) e (c .wrote .ensures)
 
 pub baizeridge-write-header-spec : {M : Type 1} → statement M

@@ -22,7 +22,7 @@ same-length c = search needs
 returns : tie.Need-returns
 returns c =
     let a = c .before .before .before .before .before .before .before .before .before .before .args in
-    let e = c .before .before .before .before .write-result .ensures ∙ result-written (a .height) (a .distance) (c .before .before .before .before .before .before .shape-by .ensures) (asResult (a .edges .now) (a .escapes .now) (a .steps)) (a .out .now) (a .at) in
+    let e = c .before .before .before .before .write-result .ensures ∙ result-written (a .height) (a .distance) (a .model) (c .before .before .before .before .before .before .shape-by .ensures) (asResult (a .edges .now) (a .escapes .now) (a .steps)) (a .out .now) (a .at) in
     buffer-out (a .place .now) e (c .wrote .ensures)
 
 pub baizeridge-write-result-spec : {M : Type 1} → statement M

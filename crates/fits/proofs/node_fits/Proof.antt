@@ -9,7 +9,8 @@ use Rattle.shape.specs.Choice.{if-true, if-false}
 use Rattle.shape.specs.Sizes.{sheetsOf, boundary, nodesIn}
 use Rattle.shape.specs.Nodes.{numberOf}
 use Rattle.shape.specs.Ranges.{halves, both}
-use Rattle.steps.specs.Steps.{base}
+use Rattle.steps.specs.Steps.{Table}
+use Rattle.steps.specs.Models.{ofModel}
 use Rattle.shape.specs.declared.Place.{Place}
 use Rattle.window.specs.declared.Node.{Node}
 use Rattle.window.specs.declared.Stage.{Stage}
@@ -18,9 +19,9 @@ use Rattle.window.specs.Formed.{isFresh, markFits, pointerFits, defectFits, nod
 use Rattle.fits.proofs.node_fits.Statement.{statement}
 use Rattle.fits.proofs.node_fits.Tie as tie
 
-module _ (stage : Stage) (h d there led : ℕ) (q : Place) (n : Node) where
+module _ (T : Table) (stage : Stage) (h d there led : ℕ) (q : Place) (n : Node) where
   abbrev fits : Bool
-  fits = nodeFits base stage h d there led q n
+  fits = nodeFits T stage h d there led q n
 
   abbrev numbers : ℕ
   numbers = nodesIn h d (sheetsOf d + 1)
@@ -29,7 +30,7 @@ module _ (stage : Stage) (h d there led : ℕ) (q : Place) (n : Node) where
   mark = markFits stage numbers (n .mark)
 
   abbrev pointer : Bool
-  pointer = pointerFits base h d led q (n .pointer)
+  pointer = pointerFits T h d led q (n .pointer)
 
   abbrev defect : Bool
   defect = defectFits d q (n .defect)
@@ -83,19 +84,19 @@ is-boundary-requires : tie.Need-is-boundary-requires
 is-boundary-requires c κs = search needs
 
 returns : tie.Need-returns
-returns c = let a = c .before .before .before .before .args in absent (a .stage) (a .shape .height) (a .shape .distance) (a .there) (a .led) (a .place) (a .node) _ _ (c .before .before .if1 .taken) (c .before .number .ensures) (c .is-fresh .ensures)
+returns c = let a = c .before .before .before .before .args in absent (ofModel (a .shape .model)) (a .stage) (a .shape .height) (a .shape .distance) (a .there) (a .led) (a .place) (a .node) _ _ (c .before .before .if1 .taken) (c .before .number .ensures) (c .is-fresh .ensures)
 
 returns-2 : tie.Need-returns-2
-returns-2 c = let a = c .before .before .before .before .args in no-mark (a .stage) (a .shape .height) (a .shape .distance) (a .there) (a .led) (a .place) (a .node) (c .before .before .if1 .left) (a .marks) (c .before .mark-fits .result) (c .before .before .before .before .pre .1) (c .before .mark-fits .ensures) (not-true _ (c .if2 .taken))
+returns-2 c = let a = c .before .before .before .before .args in no-mark (ofModel (a .shape .model)) (a .stage) (a .shape .height) (a .shape .distance) (a .there) (a .led) (a .place) (a .node) (c .before .before .if1 .left) (a .marks) (c .before .mark-fits .result) (c .before .before .before .before .pre .1) (c .before .mark-fits .ensures) (not-true _ (c .if2 .taken))
 
 returns-3 : tie.Need-returns-3
-returns-3 c = let a = c .before .before .before .before .before .before .before .args in plain-fits (a .stage) (a .shape .height) (a .shape .distance) (a .there) (a .led) (a .place) (a .node) (c .before .before .before .before .before .if1 .left) (a .marks) (c .before .before .before .before .mark-fits .result) (c .before .before .before .before .before .before .before .pre .1) (c .before .before .before .before .mark-fits .ensures) (not-false _ (c .before .before .before .if2 .left)) (c .if3 .taken)
+returns-3 c = let a = c .before .before .before .before .before .before .before .args in plain-fits (ofModel (a .shape .model)) (a .stage) (a .shape .height) (a .shape .distance) (a .there) (a .led) (a .place) (a .node) (c .before .before .before .before .before .if1 .left) (a .marks) (c .before .before .before .before .mark-fits .result) (c .before .before .before .before .before .before .before .pre .1) (c .before .before .before .before .mark-fits .ensures) (not-false _ (c .before .before .before .if2 .left)) (c .if3 .taken)
 
 returns-4 : tie.Need-returns-4
-returns-4 c = let a = c .before .before .before .before .before .before .before .before .before .args in no-pointer (a .stage) (a .shape .height) (a .shape .distance) (a .there) (a .led) (a .place) (a .node) (c .before .before .before .before .before .before .before .if1 .left) (a .marks) (c .before .before .before .before .before .before .mark-fits .result) (c .before .before .before .before .before .before .before .before .before .pre .1) (c .before .before .before .before .before .before .mark-fits .ensures) _ (c .before .pointer-fits .ensures) (not-true _ (c .if4 .taken))
+returns-4 c = let a = c .before .before .before .before .before .before .before .before .before .args in no-pointer (ofModel (a .shape .model)) (a .stage) (a .shape .height) (a .shape .distance) (a .there) (a .led) (a .place) (a .node) (c .before .before .before .before .before .before .before .if1 .left) (a .marks) (c .before .before .before .before .before .before .mark-fits .result) (c .before .before .before .before .before .before .before .before .before .pre .1) (c .before .before .before .before .before .before .mark-fits .ensures) _ (c .before .pointer-fits .ensures) (not-true _ (c .if4 .taken))
 
 returns-5 : tie.Need-returns-5
-returns-5 c = let a = c .before .before .before .before .before .before .before .before .before .before .before .args in all-fit (a .stage) (a .shape .height) (a .shape .distance) (a .there) (a .led) (a .place) (a .node) (c .before .before .before .before .before .before .before .before .before .if1 .left) (a .marks) (c .before .before .before .before .before .before .before .before .mark-fits .result) (c .before .before .before .before .before .before .before .before .before .before .before .pre .1) (c .before .before .before .before .before .before .before .before .mark-fits .ensures) _ _ (not-false _ (c .before .before .before .before .before .before .before .if2 .left)) (c .before .before .before .pointer-fits .ensures) (not-false _ (c .before .before .if4 .left)) (c .before .is-boundary .ensures)
+returns-5 c = let a = c .before .before .before .before .before .before .before .before .before .before .before .args in all-fit (ofModel (a .shape .model)) (a .stage) (a .shape .height) (a .shape .distance) (a .there) (a .led) (a .place) (a .node) (c .before .before .before .before .before .before .before .before .before .if1 .left) (a .marks) (c .before .before .before .before .before .before .before .before .mark-fits .result) (c .before .before .before .before .before .before .before .before .before .before .before .pre .1) (c .before .before .before .before .before .before .before .before .mark-fits .ensures) _ _ (not-false _ (c .before .before .before .before .before .before .before .if2 .left)) (c .before .before .before .pointer-fits .ensures) (not-false _ (c .before .before .if4 .left)) (c .before .is-boundary .ensures)
 
 pub node-fits-spec : {M : Type 1} → statement M
 node-fits-spec =

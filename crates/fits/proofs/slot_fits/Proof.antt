@@ -4,7 +4,8 @@ use mathlib.Core.Bool.{Bool, true, false, _&&_, _||_, not}
 use Prim.Native.Nat.{ℕ}
 use borrow.Author.Needs.{needs}
 use lib.Dec.{leb}
-use Rattle.steps.specs.Steps.{base, step, namer, joined}
+use Rattle.steps.specs.Steps.{step, namer, joined}
+use Rattle.steps.specs.Models.{ofModel}
 use Rattle.window.specs.Window.{reach}
 use Rattle.window.specs.LawsReach.{reach-there}
 use Rattle.window.specs.Formed.{isEmpty, slotFits}
@@ -23,7 +24,8 @@ full-fits there found growth correction e f = rw e (ap (λ (x : Bool). leb growt
 returns : tie.Need-returns
 returns c =
     let a = c .before .args in
-    empty-fits (reach base (a .shape .height) (a .shape .distance) (a .sheets) (namer base (a .kind)) (a .place) .there) (a .halves) (a .correction) (c .if1 .taken)
+    let T = ofModel (a .shape .model) in
+    empty-fits (reach T (a .shape .height) (a .shape .distance) (a .sheets) (namer T (a .kind)) (a .place) .there) (a .halves) (a .correction) (c .if1 .taken)
 
 namer-requires : tie.Need-namer-requires
 namer-requires c κs = search needs
@@ -34,9 +36,10 @@ joined-requires c κs = search needs
 returns-2 : tie.Need-returns-2
 returns-2 c =
     let a = c .before .before .before .args in
+    let T = ofModel (a .shape .model) in
     full-fits _ (c .joined .result) (a .halves) (a .correction)
-    (c .joined .ensures ∙ ap (λ (p : ℕ). joined (a .shape .height) (a .shape .distance) (a .sheets) (step base p) (a .place)) (c .before .namer .ensures)
-    ∙ sym (reach-there base (a .shape .height) (a .shape .distance) (a .sheets) (namer base (a .kind)) (a .place)))
+    (c .joined .ensures ∙ ap (λ (p : ℕ). joined (a .shape .height) (a .shape .distance) (a .sheets) (step T p) (a .place)) (c .before .namer .ensures)
+    ∙ sym (reach-there T (a .shape .height) (a .shape .distance) (a .sheets) (namer T (a .kind)) (a .place)))
     (c .before .before .if1 .left)
 
 pub slot-fits-spec : {M : Type 1} → statement M

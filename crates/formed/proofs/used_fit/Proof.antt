@@ -1,16 +1,17 @@
 -- `formed::used_fit` meets its contract. Assumes nothing.
 use mathlib.Core.Path.{_≡_, refl, sym, _∙_, subst}
 use mathlib.Core.Bool.{Bool, true, false, _&&_}
-use Prim.Native.Nat.{ℕ, _≤_, _<_, _-_}
+use Prim.Native.Nat.{ℕ, _≤_, _<_, _-_, _*_}
 use native.Mathlib.Omega.{arith}
 use borrow.Author.Needs.{needs}
 use borrow.Author.Tests.{not-true, not-false}
 use lib.ListN.{length, length-map, getD}
-use native.Mathlib.Nat.{le-antisymm}
+use native.Mathlib.Nat.{le-antisymm, mul-le-mul}
 use Rattle.shape.specs.Sizes.{maxNodes}
 use Rattle.shape.specs.Ranges.{both}
 use Rattle.shape.specs.LawsIndex.{nodes-max}
-use Rattle.steps.specs.Steps.{base}
+use Rattle.steps.specs.Steps.{Table}
+use Rattle.steps.specs.Models.{ofModel, few-kinds}
 use Rattle.shape.specs.declared.Place.{Place}
 use Rattle.walk.specs.Walk.{Stands}
 use Rattle.walk.specs.LawsWalk.{first-place, walks, stands, peopled, depth-low}
@@ -23,31 +24,35 @@ use Rattle.window.specs.Formed.{nodeFits, slotBy, nodeFitsAt, slotFitsAt}
 use Rattle.formed.proofs.used_fit.Statement.{statement}
 use Rattle.formed.proofs.used_fit.Tie as tie
 
+-- the table of its model
+abbrev tableOf : Window → Table
+tableOf w = ofModel (w .shape .model)
+
 abbrev slotsFitAt : Window → ℕ → Bool
-slotsFitAt w g = every 3 (slotFitsAt base w g)
+slotsFitAt w g = every (tableOf w .kinds) (slotFitsAt (tableOf w) w g)
 
 -- what the window's nodes and slots pass is one test
 abbrev fit : Window → Bool
-fit w = every (size w) (nodeFitsAt base w) && every (size w) (slotsFitAt w)
+fit w = every (size w) (nodeFitsAt (tableOf w) w) && every (size w) (slotsFitAt w)
 
 module _ (w : Window) (g : ℕ) where
-  no-node : (a : Bool) → g < size w → a ≡ nodeFitsAt base w g → a ≡ false → false ≡ fit w
+  no-node : (a : Bool) → g < size w → a ≡ nodeFitsAt (tableOf w) w g → a ≡ false → false ≡ fit w
   no-node a l e f =
-      sym (and-not (every (size w) (nodeFitsAt base w)) (every (size w) (slotsFitAt w)) (every-fails (nodeFitsAt base w) (size w) g l (sym e ∙ f)))
+      sym (and-not (every (size w) (nodeFitsAt (tableOf w) w)) (every (size w) (slotsFitAt w)) (every-fails (nodeFitsAt (tableOf w) w) (size w) g l (sym e ∙ f)))
 
   no-slot : (a : Bool) → g < size w → a ≡ slotsFitAt w g → a ≡ false → false ≡ fit w
   no-slot a l e f =
-      sym (and-no (every (size w) (nodeFitsAt base w)) (every (size w) (slotsFitAt w)) (every-fails (slotsFitAt w) (size w) g l (sym e ∙ f)))
+      sym (and-no (every (size w) (nodeFitsAt (tableOf w) w)) (every (size w) (slotsFitAt w)) (every-fails (slotsFitAt w) (size w) g l (sym e ∙ f)))
 
-  all-fit : g ≡ size w → every g (nodeFitsAt base w) ≡ true → every g (slotsFitAt w) ≡ true → true ≡ fit w
+  all-fit : g ≡ size w → every g (nodeFitsAt (tableOf w) w) ≡ true → every g (slotsFitAt w) ≡ true → true ≡ fit w
   all-fit e p q =
-      sym (both (every (size w) (nodeFitsAt base w)) (every (size w) (slotsFitAt w)) (subst (λ (k : ℕ). every k (nodeFitsAt base w) ≡ true) e p) (subst (λ (k : ℕ). every k (slotsFitAt w) ≡ true) e q))
+      sym (both (every (size w) (nodeFitsAt (tableOf w) w)) (every (size w) (slotsFitAt w)) (subst (λ (k : ℕ). every k (nodeFitsAt (tableOf w) w) ≡ true) e p) (subst (λ (k : ℕ). every k (slotsFitAt w) ≡ true) e q))
 
 module _ (w : Window) (g : ℕ) (q : Place) (e : q ≡ place w g) (there : ℕ) (so-many : there ≡ present w) where
-  node-fits-at : (led : ℕ) (n : Node) (a : Bool) → led ≡ pointed w → n ≡ at w g → a ≡ nodeFits base (w .stage) (w .shape .height) (w .shape .distance) there led q n → a ≡ nodeFitsAt base w g
+  node-fits-at : (led : ℕ) (n : Node) (a : Bool) → led ≡ pointed w → n ≡ at w g → a ≡ nodeFits (tableOf w) (w .stage) (w .shape .height) (w .shape .distance) there led q n → a ≡ nodeFitsAt (tableOf w) w g
   node-fits-at led n a l f p = p ∙ rw (so-many, l, e, f)
 
-  slots-fit-at : (n : ℕ) (a : Bool) → n ≡ size w → a ≡ every 3 (slotBy base (w .shape .height) (w .shape .distance) there n q g (w .growth) (w .correction)) → a ≡ slotsFitAt w g
+  slots-fit-at : (n : ℕ) (a : Bool) → n ≡ size w → a ≡ every (tableOf w .kinds) (slotBy (tableOf w) (w .shape .height) (w .shape .distance) there n q g (w .growth) (w .correction)) → a ≡ slotsFitAt w g
   unfolding slotFitsAt
   slots-fit-at n a f k = k ∙ rw (so-many, e, f)
 
@@ -55,7 +60,7 @@ module _ (w : Window) (g : ℕ) (q : Place) (e : q ≡ place w g) (there : ℕ) 
 record Passed (w : Window) (n : ℕ) (q : Place) (g : ℕ) : Type 0 where
   within : g ≤ n
   stood : 1 ≤ w .shape .height → q ≡ place w g
-  nodes : every g (nodeFitsAt base w) ≡ true
+  nodes : every g (nodeFitsAt (tableOf w) w) ≡ true
   slots : every g (slotsFitAt w) ≡ true
 
 abbrev Inv-loop : tie.InvT-loop
@@ -79,7 +84,7 @@ module _ (c : tie.In-loop Inv-loop μ-loop) where
   on : let s = c .before .before .before .before .before .before .before .args .t1 .shape in Stands (s .height) (s .distance) (c .before .loop .place) (c .before .loop .g)
   on = let s = c .before .before .before .before .before .before .before .args .t1 .shape in rw here (stands (s .height) (s .distance) (peopled (s .height) (s .distance) (c .before .loop .g) counted) (c .before .loop .g) counted)
 
-node-at : (c : tie.After-node-fits Inv-loop μ-loop) → c .node-fits .result ≡ nodeFitsAt base (c .before .before .before .before .before .before .before .before .before .args .t1) (c .before .before .before .loop .g)
+node-at : (c : tie.After-node-fits Inv-loop μ-loop) → c .node-fits .result ≡ nodeFitsAt (tableOf (c .before .before .before .before .before .before .before .before .before .args .t1)) (c .before .before .before .before .before .before .before .before .before .args .t1) (c .before .before .before .loop .g)
 node-at c = node-fits-at (c .before .before .before .before .before .before .before .before .before .args .t1) (c .before .before .before .loop .g) (c .before .before .before .loop .place) (here (c .before .before)) _ (c .before .before .before .before .before .present .ensures) _ (getD (c .before .before .before .before .before .before .before .before .before .args .t1 .nodes) (c .before .before .before .loop .g) beyond) (c .node-fits .result) (c .before .before .before .before .pointed .ensures) refl (c .node-fits .ensures)
 
 slots-at : (c : tie.After-slots-fit Inv-loop μ-loop) → c .slots-fit .result ≡ slotsFitAt (c .before .before .before .before .before .before .before .before .before .before .before .before .before .before .before .before .args .t1) (c .before .before .before .before .before .before .before .before .before .before .loop .g)
@@ -87,7 +92,10 @@ slots-at c =
     slots-fit-at (c .before .before .before .before .before .before .before .before .before .before .before .before .before .before .before .before .args .t1) (c .before .before .before .before .before .before .before .before .before .before .loop .g) (c .before .before .before .before .before .before .before .before .before .before .loop .place) (here (c .before .before .before .before .before .before .before .before .before)) _ (c .before .before .before .before .before .before .before .before .before .before .before .before .present .ensures)
     _ (c .slots-fit .result) (c .before .before .before .before .before .before .before .before .before .before .before .before .before .before .nodes .ensures) (c .slots-fit .ensures)
 
--- the lengths of the two arrays
+-- the two arrays hold the slots of every model
+holds : (w : Window) (n l : ℕ) → n ≡ size w → l ≡ maxSlots → tableOf w .kinds * n ≤ l
+holds w n l e f = rw (e, f) (mul-le-mul (few-kinds (w .shape .model)) (nodes-max (w .shape .height) (w .shape .distance)))
+
 grows : (c : tie.Start Inv-loop μ-loop) → length (c .args .t1 .growth) ≡ maxSlots
 grows c = simp length-map at (c .good .0 .1 .1 .1 .1 .1 .1 .0 .1 .0 .1)
 
@@ -107,7 +115,7 @@ pointed-requires : tie.Need-pointed-requires Inv-loop μ-loop
 pointed-requires c κs = search needs
 
 loop-holds : tie.Need-loop-holds Inv-loop μ-loop
-loop-holds c = let w = c .before .before .before .before .before .args .t1 in record { within = omega arith; stood = first-place (w .shape .height) (w .shape .distance); nodes = every-none (nodeFitsAt base w); slots = every-none (slotsFitAt w) }
+loop-holds c = let w = c .before .before .before .before .before .args .t1 in record { within = omega arith; stood = first-place (w .shape .height) (w .shape .distance); nodes = every-none (nodeFitsAt (tableOf w) w); slots = every-none (slotsFitAt w) }
 
 mul-node : tie.Need-mul-node Inv-loop μ-loop
 mul-node c = omega (arith, low c)
@@ -128,7 +136,8 @@ slots-fit-requires c κs =
     let l = counted (c .before .before .before .before .before .before .before .before) in
     let n = c .before .before .before .before .before .before .before .before .before .before .before .before .before .nodes .ensures in
     let m = nodes-max (w .shape .height) (w .shape .distance) in
-    ((omega arith, omega arith), (omega (arith, grows (c .before .before .before .before .before .before .before .before .before .before .before .before .before .before .before)), omega (arith, flips (c .before .before .before .before .before .before .before .before .before .before .before .before .before .before .before))))
+    let start = c .before .before .before .before .before .before .before .before .before .before .before .before .before .before .before in
+    ((omega arith, omega arith), (holds w _ _ n (grows start), holds w _ _ n (flips start)))
 
 returns-2 : tie.Need-returns-2 Inv-loop μ-loop
 returns-2 c = no-slot (c .before .before .before .before .before .before .before .before .before .before .before .before .before .before .before .before .before .args .t1) _ _ (counted (c .before .before .before .before .before .before .before .before .before .before)) (slots-at (c .before)) (not-true _ (c .if2 .taken))
@@ -149,7 +158,7 @@ loop-again c =
     record {
       within = omega (arith, c .before .before .before .before .before .before .before .before .before .before .before .loop-test .taken);
       stood = λ one. walks (w .shape .height) (w .shape .distance) (l .place) (c .next-place .result) (l .g) one (l .inv .stood one) (c .next-place .ensures);
-      nodes = every-more (nodeFitsAt base w) (l .g) (l .inv .nodes) (sym (node-at (c .before .before .before .before .before .before .before .before .before)) ∙ not-false _ (c .before .before .before .before .before .before .before .before .if1 .left));
+      nodes = every-more (nodeFitsAt (tableOf w) w) (l .g) (l .inv .nodes) (sym (node-at (c .before .before .before .before .before .before .before .before .before)) ∙ not-false _ (c .before .before .before .before .before .before .before .before .if1 .left));
       slots = every-more (slotsFitAt w) (l .g) (l .inv .slots) (sym (slots-at (c .before .before)) ∙ not-false _ (c .before .if2 .left));
     }
 

@@ -4,13 +4,13 @@ use mathlib.Core.Bool.{true}
 use borrow.Author.Needs.{needs}
 use lib.ListN.{length-map}
 use Rattle.shape.specs.Sizes.{inRange}
-use Rattle.steps.specs.Steps.{base}
+use Rattle.steps.specs.Models.{ofModel}
 use Rattle.closure.specs.Closure.{Kept}
 use Rattle.machine.proofs.Packed.{formed-ranged, kept-by, unpacked-long, safe, grown-packed}
 use Rattle.machine.proofs.grow.Statement.{statement}
 use Rattle.machine.proofs.grow.Tie as tie
 
-kept : (c : tie.Start) → Kept base (c .args .w)
+kept : (c : tie.Start) → Kept (ofModel (c .args .w .shape .model)) (c .args .w)
 kept c =
     kept-by (c .args .w) (c .pre) (simp length-map at (c .good .0 .1 .1 .1 .1 .1 .0 .1 .0 .1)) (simp length-map at (c .good .0 .1 .1 .1 .1 .1 .1 .0 .1 .0 .1))
     (simp length-map at (c .good .0 .1 .1 .1 .1 .1 .1 .1 .0 .1 .0 .1)) (simp length-map at (c .good .0 .1 .1 .1 .1 .1 .1 .1 .1 .0 .1 .0 .1))

@@ -5,8 +5,7 @@ use mathlib.Core.Bool.{true}
 use borrow.Author.Needs.{needs}
 use lib.ListN.{length-map}
 use Rattle.shape.specs.Sizes.{inRange}
-use Rattle.steps.specs.Models.{suited-base}
-use Rattle.steps.specs.Steps.{base}
+use Rattle.steps.specs.Models.{ofModel, suited-model, few-kinds}
 use Rattle.closure.specs.Closure.{Kept}
 use Rattle.flat.specs.Entries.{stateOf}
 use Rattle.shows.specs.Shows.{Shows}
@@ -15,7 +14,7 @@ use Rattle.machine.proofs.Packed.{formed-ranged, kept-by, none-outside,
 use Rattle.machine.proofs.round.Statement.{statement}
 use Rattle.machine.proofs.round.Tie as tie
 
-kept : (c : tie.Start) → Kept base (c .args .w)
+kept : (c : tie.Start) → Kept (ofModel (c .args .w .shape .model)) (c .args .w)
 kept c =
     kept-by (c .args .w) (c .pre .0) (simp length-map at (c .good .0 .1 .1 .1 .1 .1 .0 .1 .0 .1)) (simp length-map at (c .good .0 .1 .1 .1 .1 .1 .1 .0 .1 .0 .1))
     (simp length-map at (c .good .0 .1 .1 .1 .1 .1 .1 .1 .0 .1 .0 .1)) (simp length-map at (c .good .0 .1 .1 .1 .1 .1 .1 .1 .1 .0 .1 .0 .1))
@@ -23,7 +22,7 @@ kept c =
 ranged : (c : tie.Start) → inRange (c .args .w .shape .height) (c .args .w .shape .distance) ≡ true
 ranged c = formed-ranged (c .args .w) (c .pre .0)
 
-shows-at : (c : tie.After-unpack) → Shows base (c .before .before .before .before .before .before .before .before .before .before .before .before .before .before .args .w) (stateOf (c .unpack .last .1 .0) (c .unpack .last .1 .1 .0) (c .unpack .last .1 .1 .1 .0))
+shows-at : (c : tie.After-unpack) → Shows (ofModel (c .before .before .before .before .before .before .before .before .before .before .before .before .before .before .args .w .shape .model)) (c .before .before .before .before .before .before .before .before .before .before .before .before .before .before .args .w) (stateOf (c .unpack .last .1 .0) (c .unpack .last .1 .1 .0) (c .unpack .last .1 .1 .1 .0))
 shows-at c =
     let f = c .before .before .before .before .before in
     let z = f .before .before .before in
@@ -56,8 +55,8 @@ fall-requires c κs =
     let z = f .before .before .before in
     let s = z .before .before .before .before .before .before in
     let w = s .args .w in
-    let above = none-above base suited-base w (kept s) (u .unpack .last .1 .0) (u .unpack .last .1 .1 .0) (u .unpack .last .1 .1 .1 .0) (shows-at u) in
-    let outside = none-outside (w .shape .height) (w .shape .distance) 27648 (omega arith) in
+    let above = none-above (ofModel (w .shape .model)) (suited-model (w .shape .model)) w (kept s) (u .unpack .last .1 .0) (u .unpack .last .1 .1 .0) (u .unpack .last .1 .1 .1 .0) (shows-at u) in
+    let outside = none-outside (ofModel (w .shape .model)) (few-kinds (w .shape .model)) (w .shape .height) (w .shape .distance) 27648 (omega arith) in
     (ranged s, (z .sizes .ensures, (f .fill .ensures, (s .pre .1 .1 .1 .0, (record { of-nodes = refl; of-marks = refl; of-edges = refl }, (above, outside))))))
 
 add-pack : tie.Need-add-pack

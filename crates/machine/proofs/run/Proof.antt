@@ -4,7 +4,7 @@ use mathlib.Core.Bool.{true}
 use borrow.Author.Needs.{needs}
 use lib.ListN.{length-map}
 use Rattle.shape.specs.Sizes.{inRange}
-use Rattle.steps.specs.Steps.{base}
+use Rattle.steps.specs.Models.{ofModel}
 use Rattle.closure.specs.Closure.{Kept}
 use Rattle.flat.specs.Entries.{stateOf}
 use Rattle.flat.specs.Plan.{Safe}
@@ -13,7 +13,7 @@ use Rattle.machine.proofs.Begun.{Begun, begun, some-shown, run-packed}
 use Rattle.machine.proofs.run.Statement.{statement}
 use Rattle.machine.proofs.run.Tie as tie
 
-kept : (c : tie.Start) → Kept base (c .args .w)
+kept : (c : tie.Start) → Kept (ofModel (c .args .w .shape .model)) (c .args .w)
 kept c =
     kept-by (c .args .w) (c .pre .0) (simp length-map at (c .good .0 .1 .1 .1 .1 .1 .0 .1 .0 .1)) (simp length-map at (c .good .0 .1 .1 .1 .1 .1 .1 .0 .1 .0 .1))
     (simp length-map at (c .good .0 .1 .1 .1 .1 .1 .1 .1 .0 .1 .0 .1)) (simp length-map at (c .good .0 .1 .1 .1 .1 .1 .1 .1 .1 .0 .1 .0 .1))

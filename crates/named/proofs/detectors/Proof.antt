@@ -1,6 +1,7 @@
 -- `named::detectors` meets its contract. Assumes nothing.
 use mathlib.Core.Path.{refl}
 use Rattle.shape.specs.Sizes.{detectorsOf}
+use Rattle.shape.specs.declared.Shape.{Shape}
 use Rattle.named.specs.Laws.{sized}
 use borrow.Author.Needs.{needs}
 use Rattle.named.proofs.detectors.Statement.{statement}
@@ -13,7 +14,9 @@ detectors-requires : tie.Need-detectors-requires
 detectors-requires c κs = search needs
 
 returns : tie.Need-returns
-returns c = sized (c .before .before .args .height) (c .before .before .args .distance) detectorsOf (c .detectors .ensures) (c .before .shape-or-none .ensures) refl
+returns c =
+    let a = c .before .before .args in
+    sized (a .height) (a .distance) (a .model) (λ (sh : Shape). detectorsOf (sh .height) (sh .distance)) (c .detectors .ensures) (c .before .shape-or-none .ensures) refl
 
 pub detectors-spec : {M : Type 1} → statement M
 detectors-spec = tie.close (tie.spec shape-or-none-requires detectors-requires returns)

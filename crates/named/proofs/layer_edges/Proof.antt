@@ -1,6 +1,7 @@
 -- `named::layer_edges` meets its contract. Assumes nothing.
 use mathlib.Core.Path.{refl}
 use Rattle.shape.specs.Sizes.{layerEdgesOf}
+use Rattle.shape.specs.declared.Shape.{Shape}
 use Rattle.named.specs.Laws.{sized}
 use borrow.Author.Needs.{needs}
 use Rattle.named.proofs.layer_edges.Statement.{statement}
@@ -13,7 +14,9 @@ layer-edges-requires : tie.Need-layer-edges-requires
 layer-edges-requires c κs = search needs
 
 returns : tie.Need-returns
-returns c = sized (c .before .before .args .height) (c .before .before .args .distance) layerEdgesOf (c .layer-edges .ensures) (c .before .shape-or-none .ensures) refl
+returns c =
+    let a = c .before .before .args in
+    sized (a .height) (a .distance) (a .model) (λ (sh : Shape). layerEdgesOf (sh .model) (sh .height) (sh .distance)) (c .layer-edges .ensures) (c .before .shape-or-none .ensures) refl
 
 pub layer-edges-spec : {M : Type 1} → statement M
 layer-edges-spec =

@@ -1,6 +1,7 @@
 -- `named::nodes` meets its contract. Assumes nothing.
 use mathlib.Core.Path.{refl}
 use Rattle.shape.specs.Sizes.{nodesOf}
+use Rattle.shape.specs.declared.Shape.{Shape}
 use Rattle.named.specs.Laws.{sized}
 use borrow.Author.Needs.{needs}
 use Rattle.named.proofs.nodes.Statement.{statement}
@@ -13,7 +14,9 @@ nodes-requires : tie.Need-nodes-requires
 nodes-requires c κs = search needs
 
 returns : tie.Need-returns
-returns c = sized (c .before .before .args .height) (c .before .before .args .distance) nodesOf (c .nodes .ensures) (c .before .shape-or-none .ensures) refl
+returns c =
+    let a = c .before .before .args in
+    sized (a .height) (a .distance) (a .model) (λ (sh : Shape). nodesOf (sh .height) (sh .distance)) (c .nodes .ensures) (c .before .shape-or-none .ensures) refl
 
 pub nodes-spec : {M : Type 1} → statement M
 nodes-spec = tie.close (tie.spec shape-or-none-requires nodes-requires returns)

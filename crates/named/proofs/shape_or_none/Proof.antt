@@ -18,12 +18,12 @@ enum-told c = search needs
 returns : tie.Need-returns
 returns c =
     let s = c .before .before .before in
-    shape-done (s .before .args .height) (s .before .args .distance) (sym (ap shapeAnswer (c .before .shape .given .1)) ∙ s .shape-of .ensures)
+    shape-done (s .before .args .height) (s .before .args .distance) (s .before .args .model) (sym (ap shapeAnswer (c .before .shape .given .1)) ∙ s .shape-of .ensures)
 
 returns-2 : tie.Need-returns-2
 returns-2 c =
     let s = c .before .before in
-    shape-turned (s .before .args .height) (s .before .args .distance) (c .enum-told .given .0 .0) (sym (ap shapeAnswer (c .enum-told .given .1)) ∙ s .shape-of .ensures)
+    shape-turned (s .before .args .height) (s .before .args .distance) (s .before .args .model) (c .enum-told .given .0 .0) (sym (ap shapeAnswer (c .enum-told .given .1)) ∙ s .shape-of .ensures)
 
 pub shape-or-none-spec : {M : Type 1} → statement M
 shape-or-none-spec =

@@ -92,7 +92,7 @@ turn-requires c κs =
 record-of-requires : tie.Need-record-of-requires
 record-of-requires c κs =
     let p = c .before .before .before .before .before .before .before .before .before .before .before .before .before .before .before .before .before .before .pre in
-    (p .range, (p .sizes, (p .filled, read (c .before .before .before .before .before .before .before .before .before .before) .room)))
+    (record { sizes = p .range; model = p .model }, (p .sizes, (p .filled, read (c .before .before .before .before .before .before .before .before .before .before) .room)))
 
 add-t43 : tie.Need-add-t43
 add-t43 c = omega (arith, read (c .before .before .before .before .before .before .before .before .before .before .before .before .before .before) .early)

@@ -73,10 +73,10 @@ loop-again c = let l = c .before .before .before .before .loop in let a = c .bef
     (omega (arith, c .before .before .before .loop-test .taken), over-next (nodeRule (a .nodes .now) (a .marks .now)) (replicate 3600 unused) (l .g) (l .all) (c .node-of .result) (long 3600 (l .g) (low (c .before .before .before))) (l .inv .1) (c .node-of .ensures))
 
 growth-kinds-requires : tie.Need-growth-kinds-requires Inv-loop μ-loop
-growth-kinds-requires c κs = (few (c .before), length-replicate {A = ℕ} 10800 0)
+growth-kinds-requires c κs = (few (c .before), length-replicate {A = ℕ} 21600 0)
 
 bits-kinds-requires : tie.Need-bits-kinds-requires Inv-loop μ-loop
-bits-kinds-requires c κs = (few (c .before .before .before), length-replicate 10800 false)
+bits-kinds-requires c κs = (few (c .before .before .before), length-replicate 21600 false)
 
 returns : tie.Need-returns Inv-loop μ-loop
 returns c = let a = c .before .before .before .before .before .before .before .before .args in let l = c .before .before .before .before .before .loop in

@@ -3,7 +3,8 @@ use mathlib.Core.Path.{sym, _∙_, ap}
 use Prim.Native.Nat.{ℕ, _+_}
 use borrow.Author.Needs.{needs}
 use Rattle.plan.specs.Loops.{area-beside, area-else}
-use Rattle.steps.specs.Steps.{base, step}
+use Rattle.steps.specs.Steps.{step}
+use Rattle.steps.specs.Models.{ofModel}
 use Rattle.plan.proofs.area_of.Statement.{statement}
 use Rattle.plan.proofs.area_of.Tie as tie
 
@@ -38,7 +39,7 @@ end-requires-2 : tie.Need-end-requires-2
 end-requires-2 c κs = search needs
 
 returns : tie.Need-returns
-returns c = area-beside (c .before .before .before .before .before .before .before .before .before .before .before .before .args .shape .height) (c .before .before .before .before .before .before .before .before .before .before .before .before .args .shape .distance) _ _ _ _ _ _ (c .before .before .before .before .before .before .before .before .before .before .step-of .result) _ (c .before .before .before .before .before .before .before .before .before .before .step-of .ensures ∙ ap (step base) (c .before .before .before .before .before .before .before .before .before .before .before .namer .ensures)) (c .before .before .before .before .before .wide2 .ensures) (c .before .before .before .before .before .before .before .wide .ensures) (c .before .before .before .before .before .before .first .ensures) (c .before .before .before .before .end .ensures) (sym (c .before .before .before .beside .ensures) ∙ c .before .before .if1 .taken) (c .before .first2 .ensures) (c .end2 .ensures)
+returns c = area-beside (c .before .before .before .before .before .before .before .before .before .before .before .before .args .shape .height) (c .before .before .before .before .before .before .before .before .before .before .before .before .args .shape .distance) _ _ _ _ _ _ (c .before .before .before .before .before .before .before .before .before .before .step-of .result) _ (c .before .before .before .before .before .before .before .before .before .before .step-of .ensures ∙ ap (step (ofModel (c .before .before .before .before .before .before .before .before .before .before .before .before .args .shape .model))) (c .before .before .before .before .before .before .before .before .before .before .before .namer .ensures)) (c .before .before .before .before .before .wide2 .ensures) (c .before .before .before .before .before .before .before .wide .ensures) (c .before .before .before .before .before .before .first .ensures) (c .before .before .before .before .end .ensures) (sym (c .before .before .before .beside .ensures) ∙ c .before .before .if1 .taken) (c .before .first2 .ensures) (c .end2 .ensures)
 
 first-requires-3 : tie.Need-first-requires-3
 first-requires-3 c κs = search needs
@@ -50,7 +51,7 @@ end-requires-3 : tie.Need-end-requires-3
 end-requires-3 c κs = search needs
 
 returns-2 : tie.Need-returns-2
-returns-2 c = area-else (c .before .before .before .before .before .before .before .before .before .before .before .before .args .shape .height) (c .before .before .before .before .before .before .before .before .before .before .before .before .args .shape .distance) _ _ _ _ _ _ (c .before .before .before .before .before .before .before .before .before .before .step-of .result) _ (c .before .before .before .before .before .before .before .before .before .before .step-of .ensures ∙ ap (step base) (c .before .before .before .before .before .before .before .before .before .before .before .namer .ensures)) (c .before .before .before .before .before .wide2 .ensures) (c .before .before .before .before .before .before .before .wide .ensures) (c .before .before .before .before .before .before .first .ensures) (c .before .before .before .before .end .ensures) (sym (c .before .before .before .beside .ensures) ∙ c .before .before .if1 .left) (ap (λ (x : ℕ). 1 + x) (c .before .first3 .ensures)) (c .end3 .ensures)
+returns-2 c = area-else (c .before .before .before .before .before .before .before .before .before .before .before .before .args .shape .height) (c .before .before .before .before .before .before .before .before .before .before .before .before .args .shape .distance) _ _ _ _ _ _ (c .before .before .before .before .before .before .before .before .before .before .step-of .result) _ (c .before .before .before .before .before .before .before .before .before .before .step-of .ensures ∙ ap (step (ofModel (c .before .before .before .before .before .before .before .before .before .before .before .before .args .shape .model))) (c .before .before .before .before .before .before .before .before .before .before .before .namer .ensures)) (c .before .before .before .before .before .wide2 .ensures) (c .before .before .before .before .before .before .before .wide .ensures) (c .before .before .before .before .before .before .first .ensures) (c .before .before .before .before .end .ensures) (sym (c .before .before .before .beside .ensures) ∙ c .before .before .if1 .left) (ap (λ (x : ℕ). 1 + x) (c .before .first3 .ensures)) (c .end3 .ensures)
 
 pub area-of-spec : {M : Type 1} → statement M
 area-of-spec =

@@ -4,9 +4,9 @@ use native.Mathlib.Omega.{arith}
 use borrow.Author.Needs.{needs}
 use Rattle.flat.specs.declared.Sizes.{Sizes}
 use Rattle.plan.specs.Filled.{sheets-are, bottom-low, filled-by}
-use Rattle.steps.specs.Steps.{base}
-use Rattle.steps.specs.Models.{suited-base}
-use Rattle.plan.specs.Limits.{roomy-base}
+use Rattle.steps.specs.Models.{ofModel}
+use Rattle.steps.specs.Models.{suited-model}
+use Rattle.plan.specs.Limits.{roomy-model}
 use Rattle.shape.specs.LawsIndex.{nodes-max}
 use Rattle.plan.proofs.fill.Statement.{statement}
 use Rattle.plan.proofs.fill.Tie as tie
@@ -34,7 +34,7 @@ places-requires c κs = (c .before .before .before .before .before .before .befo
 
 returns : tie.Need-returns
 returns c = let s = c .before .before .before .before .before .before .before .before .before .before .before in
-    filled-by base suited-base roomy-base (s .args .shape .height) (s .args .shape .distance) (s .pre .0) (c .before .before .before .before .before .before .before .before .before .before .sizes .result) (s .args .table .now) _ _ _ _
+    filled-by (ofModel (s .args .shape .model)) (suited-model (s .args .shape .model)) (roomy-model (s .args .shape .model)) (s .args .shape .height) (s .args .shape .distance) (s .pre .0) (c .before .before .before .before .before .before .before .before .before .before .sizes .result) (s .args .table .now) _ _ _ _
     (c .before .before .before .before .before .before .before .before .before .before .sizes .ensures) (s .pre .1) (c .before .before .before .before .before .before .before .before .heads .ensures) (c .before .before .before .before .before .before .numbers .ensures) (c .before .before .before .before .fresh-kinds .ensures) (c .places .ensures)
 
 pub fill-spec : {M : Type 1} → statement M

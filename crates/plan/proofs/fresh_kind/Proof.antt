@@ -7,7 +7,7 @@ use Rattle.plan.specs.Passes.{blocks, rows-start, rows-next, blocks-none
 use Rattle.plan.specs.Table.{freshIn, areaOf}
 use Rattle.plan.specs.Limits.{sheet-low}
 use Rattle.shape.specs.Ranges.{ranged}
-use Rattle.steps.specs.Steps.{base}
+use Rattle.steps.specs.Models.{ofModel}
 use Rattle.layers.specs.Boxes.{named}
 use Rattle.plan.proofs.fresh_kind.Statement.{statement}
 use Rattle.plan.proofs.fresh_kind.Tie as tie
@@ -71,7 +71,7 @@ loop-again c = let l = c .before .before .before .before .before .loop in let w 
 
 returns : tie.Need-returns Inv-loop μ-loop
 returns c = let s = c .before .before .before .before .before .before in let d = s .args .shape .distance in let w = c .before .before .before .wide2 .result + 1 in let e = ap (λ (x : ℕ). x + 1) (c .before .before .before .wide2 .ensures) in
-    blocks-are (4608 + 240 * c .before .before .before .before .before .before .args .kind) w (freshIn (c .before .before .before .before .before .area-of .result)) w 0 (d + 1) (freshIn (areaOf (s .args .shape .height) d (named base (s .args .kind)))) (d + 1) (c .before .loop .r) (s .args .shape .height) (s .args .table .now) (c .before .loop .table) e
+    blocks-are (4608 + 240 * c .before .before .before .before .before .before .args .kind) w (freshIn (c .before .before .before .before .before .area-of .result)) w 0 (d + 1) (freshIn (areaOf (s .args .shape .height) d (named (ofModel (s .args .shape .model)) (s .args .kind)))) (d + 1) (c .before .loop .r) (s .args .shape .height) (s .args .table .now) (c .before .loop .table) e
     (ap freshIn (c .before .before .before .before .before .area-of .ensures)) e (omega (arith, c .loop-test .left, c .before .loop .inv .0, c .before .before .before .before .wide .ensures)) (c .before .loop .inv .2)
 
 pub fresh-kind-spec : {M : Type 1} → statement M

@@ -5,8 +5,8 @@ use native.Mathlib.Omega.{arith}
 use borrow.Author.Needs.{needs}
 use Rattle.plan.specs.Passes.{blocks, rows-start, rows-next, blocks-none, blocks-next, blocks-are}
 use Rattle.plan.specs.Loops.{PlacesLow, places-low, rows-is, columns-is, places-are}
-use Rattle.plan.specs.Limits.{roomy-base, small-named}
-use Rattle.steps.specs.Steps.{base}
+use Rattle.plan.specs.Limits.{roomy-model, small-named}
+use Rattle.steps.specs.Models.{ofModel}
 use Rattle.layers.specs.Boxes.{named, rows, columns}
 use Rattle.plan.specs.Table.{placeRow}
 use Rattle.plan.proofs.places_kind.Statement.{statement}
@@ -21,7 +21,7 @@ abbrev μ-loop : tie.MeasureT-loop
 low : (c : tie.After-less2 Inv-loop μ-loop) → PlacesLow (c .before .before .before .area-of .result .top) (c .before .before .before .area-of .result .left) (c .less2 .result) (c .before .less .result) (c .before .before .wide .result + 1)
 low c =
     let s = c .before .before .before .before in
-    places-low (s .args .shape .height) (s .args .shape .distance) (named base (s .args .kind)) (s .pre .0) (small-named base roomy-base (s .args .kind)) _ _ _ _ (c .before .before .before .area-of .ensures) (c .before .less .ensures) (c .less2 .ensures) (c .before .before .wide .ensures)
+    places-low (s .args .shape .height) (s .args .shape .distance) (named (ofModel (s .args .shape .model)) (s .args .kind)) (s .pre .0) (small-named (ofModel (s .args .shape .model)) (roomy-model (s .args .shape .model)) (s .args .kind)) _ _ _ _ (c .before .before .before .area-of .ensures) (c .before .less .ensures) (c .less2 .ensures) (c .before .before .wide .ensures)
 
 area-of-requires : tie.Need-area-of-requires Inv-loop μ-loop
 area-of-requires c κs = search needs
@@ -85,11 +85,11 @@ loop-again c = let l = c .before .before .before .loop in let n = c .before .bef
 returns : tie.Need-returns Inv-loop μ-loop
 returns c = let s = c .before .before .before .before .before .before .before .before .before in let l = c .before .loop in
     let e : l .i ≡ c .before .before .before .before .before .less2 .result = omega (arith, c .loop-test .left, l .inv .0) in
-    let m = rows-is (s .args .shape .height) (s .args .shape .distance) (named base (s .args .kind)) (s .pre .0) (small-named base roomy-base (s .args .kind)) (c .before .before .before .before .before .before .before .before .area-of .result) _ _ _ (c .before .before .before .before .before .before .before .before .area-of .ensures) (c .before .before .before .before .before .before .less .ensures) (c .before .before .before .before .before .less2 .ensures) (c .before .before .before .before .before .before .before .wide .ensures) in let n = columns-is (s .args .shape .height) (s .args .shape .distance) (named base (s .args .kind)) (s .pre .0) (small-named base roomy-base (s .args .kind)) (c .before .before .before .before .before .before .before .before .area-of .result) _ _ _ (c .before .before .before .before .before .before .before .before .area-of .ensures) (c .before .before .before .before .before .before .less .ensures) (c .before .before .before .before .before .less2 .ensures) (c .before .before .before .before .before .before .before .wide .ensures) in (
+    let m = rows-is (s .args .shape .height) (s .args .shape .distance) (named (ofModel (s .args .shape .model)) (s .args .kind)) (s .pre .0) (small-named (ofModel (s .args .shape .model)) (roomy-model (s .args .shape .model)) (s .args .kind)) (c .before .before .before .before .before .before .before .before .area-of .result) _ _ _ (c .before .before .before .before .before .before .before .before .area-of .ensures) (c .before .before .before .before .before .before .less .ensures) (c .before .before .before .before .before .less2 .ensures) (c .before .before .before .before .before .before .before .wide .ensures) in let n = columns-is (s .args .shape .height) (s .args .shape .distance) (named (ofModel (s .args .shape .model)) (s .args .kind)) (s .pre .0) (small-named (ofModel (s .args .shape .model)) (roomy-model (s .args .shape .model)) (s .args .kind)) (c .before .before .before .before .before .before .before .before .area-of .result) _ _ _ (c .before .before .before .before .before .before .before .before .area-of .ensures) (c .before .before .before .before .before .before .less .ensures) (c .before .before .before .before .before .less2 .ensures) (c .before .before .before .before .before .before .before .wide .ensures) in (
       l .inv .1 ∙ ap₂ (λ (x y : ℕ). s .args .start + x * y) (e ∙ m) n,
-      blocks-are (s .args .start) (c .before .before .before .before .before .before .less .result) (λ r j. (4608 * c .before .before .before .before .wide2 .result + c .before .before .before .before .before .before .before .before .before .args .bottom + c .before .before .before .product .result + c .before .before .before .before .before .before .before .before .area-of .result .left) + r * (c .before .before .before .before .before .before .before .wide .result + 1) + j) (c .before .before .before .before .before .before .less .result) 0 (columns (s .args .shape .distance) (named base (s .args .kind))) (placeRow (s .args .shape .distance) (s .args .bottom) (named base (s .args .kind)) (s .args .kind))
-          (columns (s .args .shape .distance) (named base (s .args .kind))) (l .i) (rows (s .args .shape .height) (named base (s .args .kind))) (s .args .table .now) (l .table) n
-          (places-are (s .args .shape .height) (s .args .shape .distance) (named base (s .args .kind)) (s .pre .0) (small-named base roomy-base (s .args .kind)) (c .before .before .before .before .before .before .before .before .area-of .result) _ _ _ (c .before .before .before .before .before .before .before .before .area-of .ensures) (c .before .before .before .before .before .before .less .ensures) (c .before .before .before .before .before .less2 .ensures) (c .before .before .before .before .before .before .before .wide .ensures) (s .args .kind) (c .before .before .before .before .wide2 .result) (s .args .bottom) (c .before .before .before .product .result) (4608 * c .before .before .before .before .wide2 .result + c .before .before .before .before .before .before .before .before .before .args .bottom + c .before .before .before .product .result + c .before .before .before .before .before .before .before .before .area-of .result .left) (c .before .before .before .before .wide2 .ensures) (c .before .before .before .product .ensures .value) refl) n (e ∙ m) (l .inv .3),
+      blocks-are (s .args .start) (c .before .before .before .before .before .before .less .result) (λ r j. (4608 * c .before .before .before .before .wide2 .result + c .before .before .before .before .before .before .before .before .before .args .bottom + c .before .before .before .product .result + c .before .before .before .before .before .before .before .before .area-of .result .left) + r * (c .before .before .before .before .before .before .before .wide .result + 1) + j) (c .before .before .before .before .before .before .less .result) 0 (columns (s .args .shape .distance) (named (ofModel (s .args .shape .model)) (s .args .kind))) (placeRow (s .args .shape .distance) (s .args .bottom) (named (ofModel (s .args .shape .model)) (s .args .kind)) (s .args .kind))
+          (columns (s .args .shape .distance) (named (ofModel (s .args .shape .model)) (s .args .kind))) (l .i) (rows (s .args .shape .height) (named (ofModel (s .args .shape .model)) (s .args .kind))) (s .args .table .now) (l .table) n
+          (places-are (s .args .shape .height) (s .args .shape .distance) (named (ofModel (s .args .shape .model)) (s .args .kind)) (s .pre .0) (small-named (ofModel (s .args .shape .model)) (roomy-model (s .args .shape .model)) (s .args .kind)) (c .before .before .before .before .before .before .before .before .area-of .result) _ _ _ (c .before .before .before .before .before .before .before .before .area-of .ensures) (c .before .before .before .before .before .before .less .ensures) (c .before .before .before .before .before .less2 .ensures) (c .before .before .before .before .before .before .before .wide .ensures) (s .args .kind) (c .before .before .before .before .wide2 .result) (s .args .bottom) (c .before .before .before .product .result) (4608 * c .before .before .before .before .wide2 .result + c .before .before .before .before .before .before .before .before .before .args .bottom + c .before .before .before .product .result + c .before .before .before .before .before .before .before .before .area-of .result .left) (c .before .before .before .before .wide2 .ensures) (c .before .before .before .product .ensures .value) refl) n (e ∙ m) (l .inv .3),
     )
 
 pub places-kind-spec : {M : Type 1} → statement M

@@ -9,7 +9,7 @@ use lib.ListN.{length, take, replicate}
 use lib.Seq.{length-take-le}
 use Rattle.shape.specs.Sizes.{maxDetectors}
 use Rattle.shape.specs.LawsSizes.{detectors-le}
-use Rattle.steps.specs.Steps.{base}
+use Rattle.steps.specs.Models.{ofModel}
 use Rattle.window.specs.LawsLists.{Fills, part-fits, part-back, part-long}
 use Rattle.window.specs.Measured.{differences, asSheet, withSheet, measuring}
 use Rattle.window.specs.LawsMeasured.{differences-long}
@@ -20,13 +20,13 @@ use Rattle.raw.proofs.raw.Statement.{statement}
 use Rattle.raw.proofs.raw.Tie as tie
 
 after : (w v : Window) (bytes defects edges escapes : List ℕ) (sheet : List Bool) → defects ≡ differences (w .measured) bytes
-    → asRound v edges escapes ≡ receiving base w defects → sheet ≡ asSheet bytes → asRound (withSheet v sheet) edges escapes ≡ receivingRaw base w bytes
+    → asRound v edges escapes ≡ receiving (ofModel (w .shape .model)) w defects → sheet ≡ asSheet bytes → asRound (withSheet v sheet) edges escapes ≡ receivingRaw (ofModel (w .shape .model)) w bytes
 unfolding measuring
 after w v bytes defects edges escapes sheet d e s =
-    ap (λ (r : Round). asRound (withSheet (r .window) sheet) (r .edges) (r .escapes)) (e ∙ ap (receiving base w) d) ∙ rw s
+    ap (λ (r : Round). asRound (withSheet (r .window) sheet) (r .edges) (r .escapes)) (e ∙ ap (receiving (ofModel (w .shape .model)) w) d) ∙ rw s
 
 low : (c : tie.Start) → length (c .args .bytes .now) ≤ maxDetectors
-low c = omega (arith, c .pre .1 .1 .1 .0, detectors-le (c .args .w .shape .height) (c .args .w .shape .distance) (facts base (c .args .w) (c .pre .0) .ranged))
+low c = omega (arith, c .pre .1 .1 .1 .0, detectors-le (c .args .w .shape .height) (c .args .w .shape .distance) (facts (ofModel (c .args .w .shape .model)) (c .args .w) (c .pre .0) .ranged))
 
 lent : (c : tie.Start) → length (take (length (c .args .bytes .now)) (replicate {A = ℕ} maxDetectors 0)) ≡ length (c .args .bytes .now)
 lent c = length-take-le _ _ (low c)

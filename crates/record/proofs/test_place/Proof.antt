@@ -20,7 +20,7 @@ enum-known-tested c = search needs
 returns : tie.Need-returns
 returns c =
     let a = c .before .before .before .before .args in
-    let t = shapeTests (a .shape .height) (a .shape .distance) in
+    let t = shapeTests (a .shape .height) (a .shape .distance) (a .shape .model) in
     let e = sym (c .before .before .before .in-range .ensures) ∙ ap testedAnswer (c .before .tested .given .1) in
     sym (turned-first t ((leb (a .at) (a .len), 10) ∷ []) (c .before .tested .given .0 .0) (tests-turned t tt 0 (c .before .tested .given .0 .0) e) (Unit {0}) (done tt 0))
 
@@ -30,14 +30,14 @@ enum-told c = search needs
 returns-2 : tie.Need-returns-2
 returns-2 c =
     let a = c .before .before .before .before .args in
-    let t = shapeTests (a .shape .height) (a .shape .distance) in
+    let t = shapeTests (a .shape .height) (a .shape .distance) (a .shape .model) in
     let e = sym (c .before .before .before .in-range .ensures) ∙ ap testedAnswer (c .before .enum-told .given .1) in
     sym (turned-after t ((leb (a .at) (a .len), 10) ∷ []) Offset (tests-fine t e) (turn-here (leb (a .at) (a .len)) 10 [] (lt-leb (a .at) (a .len) (c .if1 .taken))) (Unit {0}) (done tt 0))
 
 returns-3 : tie.Need-returns-3
 returns-3 c =
     let a = c .before .before .before .before .args in
-    let t = shapeTests (a .shape .height) (a .shape .distance) in
+    let t = shapeTests (a .shape .height) (a .shape .distance) (a .shape .model) in
     let e = sym (c .before .before .before .in-range .ensures) ∙ ap testedAnswer (c .before .enum-told .given .1) in
     sym (pass-append t ((leb (a .at) (a .len), 10) ∷ []) (tests-fine t e) (pass-one (leb (a .at) (a .len)) 10 [] (le-leb (a .at) (a .len) (c .if1 .left)) pass-none) (Unit {0}) (done tt 0))
 

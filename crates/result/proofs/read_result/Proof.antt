@@ -24,15 +24,15 @@ more sh edges escapes = edgesTest sh edges ∷ escapesTest sh escapes ∷ []
 
 module _ (sh : Shape) (s : List ℕ) (at : ℕ) (edges escapes : List ℕ) where
   abbrev whole : Answer Result
-  whole = resultAt s (layerEdgesOf (sh .height) (sh .distance)) (detectorsOf (sh .height) (sh .distance)) at
+  whole = resultAt s (layerEdgesOf (sh .model) (sh .height) (sh .distance)) (detectorsOf (sh .height) (sh .distance)) at
 
-  module _ (n : ℕ) (e : n ≡ layerEdgesOf (sh .height) (sh .distance)) where
+  module _ (n : ℕ) (e : n ≡ layerEdgesOf (sh .model) (sh .height) (sh .distance)) where
     wrong-edges : (length edges ≡ n → ⊥) → Turned (more sh edges escapes) Edges
-    wrong-edges h = turn-here (edgesTest sh edges .0) 5 (escapesTest sh escapes ∷ []) (ne-eqb (length edges) (layerEdgesOf (sh .height) (sh .distance)) (λ k. h (k ∙ sym e)))
+    wrong-edges h = turn-here (edgesTest sh edges .0) 5 (escapesTest sh escapes ∷ []) (ne-eqb (length edges) (layerEdgesOf (sh .model) (sh .height) (sh .distance)) (λ k. h (k ∙ sym e)))
 
     module _ (h : length edges ≡ n) (m : ℕ) (d : m ≡ detectorsOf (sh .height) (sh .distance)) where
       right : edgesTest sh edges .0 ≡ true
-      right = eq-eqb (length edges) (layerEdgesOf (sh .height) (sh .distance)) (h ∙ e)
+      right = eq-eqb (length edges) (layerEdgesOf (sh .model) (sh .height) (sh .distance)) (h ∙ e)
 
       wrong-escapes : (length escapes ≡ m → ⊥) → Turned (more sh edges escapes) Escapes
       wrong-escapes k =
@@ -50,16 +50,16 @@ module _ (sh : Shape) (s : List ℕ) (at : ℕ) (edges escapes : List ℕ) where
         ends : length s ≤ at → resultBuffered ended edges escapes ≡ readResult sh s at edges escapes
         ends z =
             sym (ap (λ (a : Answer Result). readIntoBoth a edges escapes)
-            (at-end s at (resultFrom s (layerEdgesOf (sh .height) (sh .distance)) (detectorsOf (sh .height) (sh .distance)) at) z))
+            (at-end s at (resultFrom s (layerEdgesOf (sh .model) (sh .height) (sh .distance)) (detectorsOf (sh .height) (sh .distance)) at) z))
             ∙ goes-on
 
         module _ (z : at < length s) where
           scanned : readIntoBoth (resultFrom s (length edges) (length escapes) at) edges escapes ≡ readResult sh s at edges escapes
           scanned =
               ap (λ (x : ℕ). readIntoBoth (resultFrom s x (length escapes) at) edges escapes) (h ∙ e)
-              ∙ ap (λ (x : ℕ). readIntoBoth (resultFrom s (layerEdgesOf (sh .height) (sh .distance)) x at) edges escapes) (k ∙ d)
+              ∙ ap (λ (x : ℕ). readIntoBoth (resultFrom s (layerEdgesOf (sh .model) (sh .height) (sh .distance)) x at) edges escapes) (k ∙ d)
               ∙ sym (ap (λ (a : Answer Result). readIntoBoth a edges escapes)
-              (before-end s at (resultFrom s (layerEdgesOf (sh .height) (sh .distance)) (detectorsOf (sh .height) (sh .distance)) at) z))
+              (before-end s at (resultFrom s (layerEdgesOf (sh .model) (sh .height) (sh .distance)) (detectorsOf (sh .height) (sh .distance)) at) z))
               ∙ goes-on
 
           not-read : (a : Answer ℕ) → a ≡ stepsOf (resultFrom s (length edges) (length escapes) at) → isDone a ≡ false → resultBuffered a edges escapes ≡ readResult sh s at edges escapes

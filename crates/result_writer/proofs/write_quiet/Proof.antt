@@ -27,7 +27,7 @@ returns : tie.Need-returns
 returns c =
     let s = c .before .before .before .before .before .before .before in
     let a = s .args in
-    let m = layerEdgesOf (a .shape .height) (a .shape .distance) in
+    let m = layerEdgesOf (a .shape .model) (a .shape .height) (a .shape .distance) in
     let n = detectorsOf (a .shape .height) (a .shape .distance) in
     c .before .before .put-from .ensures
     ∙ ap (λ (bytes : List ℕ). writing [] (a .out .now) (a .at) bytes)

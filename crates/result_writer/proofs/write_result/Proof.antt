@@ -20,15 +20,15 @@ use borrow.Author.Needs.{needs}
 use Rattle.result_writer.proofs.write_result.Statement.{statement}
 use Rattle.result_writer.proofs.write_result.Tie as tie
 
-module _ (sh : Shape) (edges escapes : List ℕ) (n : ℕ) (e : n ≡ layerEdgesOf (sh .height) (sh .distance)) where
+module _ (sh : Shape) (edges escapes : List ℕ) (n : ℕ) (e : n ≡ layerEdgesOf (sh .model) (sh .height) (sh .distance)) where
   wrong-edges : (length edges ≡ n → ⊥) → Turned (more sh edges escapes) Edges
   wrong-edges h =
       turn-here (edgesTest sh edges .0) 5 (escapesTest sh escapes ∷ bits edges escapes)
-      (ne-eqb (length edges) (layerEdgesOf (sh .height) (sh .distance)) (λ k. h (k ∙ sym e)))
+      (ne-eqb (length edges) (layerEdgesOf (sh .model) (sh .height) (sh .distance)) (λ k. h (k ∙ sym e)))
 
   module _ (h : length edges ≡ n) where
     right-edges : edgesTest sh edges .0 ≡ true
-    right-edges = eq-eqb (length edges) (layerEdgesOf (sh .height) (sh .distance)) (h ∙ e)
+    right-edges = eq-eqb (length edges) (layerEdgesOf (sh .model) (sh .height) (sh .distance)) (h ∙ e)
 
     edges-then : (f : Refusal) → Turned (escapesTest sh escapes ∷ bits edges escapes) f → Turned (more sh edges escapes) f
     edges-then f p = turned-after (edgesTest sh edges ∷ []) (escapesTest sh escapes ∷ bits edges escapes) f (pass-one (edgesTest sh edges .0) 5 [] right-edges pass-none) p

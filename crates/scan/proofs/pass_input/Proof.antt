@@ -18,7 +18,7 @@ low c =
     let s = c .before .before in
     let h = s .args .shape .height in
     let d = s .args .shape .distance in
-    omega (arith, c .detectors .ensures, detectors-le h d (ranged h d (s .pre .0)))
+    omega (arith, c .detectors .ensures, detectors-le h d (ranged h d (s .pre .0 .sizes)))
 
 lent : (c : tie.After-detectors) → length {A = ℕ} (take (c .detectors .result) (replicate maxDetectors 0)) ≡ c .detectors .result
 lent c = length-take-le (c .detectors .result) (replicate maxDetectors 0) (low c)

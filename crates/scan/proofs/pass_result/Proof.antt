@@ -23,14 +23,14 @@ few c =
     let s = c .before .before in
     let h = s .args .shape .height in
     let d = s .args .shape .distance in
-    omega (arith, c .layer-edges .ensures, layer-le h d (ranged h d (s .pre .0)))
+    omega (arith, c .layer-edges .ensures, layer-le (s .args .shape .model) h d (ranged h d (s .pre .0 .sizes)))
 
 low : (c : tie.After-detectors) → c .detectors .result ≤ maxDetectors
 low c =
     let s = c .before .before .before in
     let h = s .args .shape .height in
     let d = s .args .shape .distance in
-    omega (arith, c .detectors .ensures, detectors-le h d (ranged h d (s .pre .0)))
+    omega (arith, c .detectors .ensures, detectors-le h d (ranged h d (s .pre .0 .sizes)))
 
 lent-edges : (c : tie.After-layer-edges) → length {A = ℕ} (take (c .layer-edges .result) (replicate maxLayerEdges 0)) ≡ c .layer-edges .result
 lent-edges c = length-take-le (c .layer-edges .result) (replicate maxLayerEdges 0) (few c)

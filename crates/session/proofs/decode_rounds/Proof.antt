@@ -2,6 +2,7 @@
 use mathlib.Core.Path.{sym, _∙_}
 use borrow.Author.Needs.{needs}
 use borrow.Author.Tests.{not-true, not-false}
+use Rattle.steps.specs.Models.{ofModel}
 use Rattle.rounds_on.specs.Passing.{pass-bad, pass-stage}
 use Rattle.session.proofs.decode_rounds.Statement.{statement}
 use Rattle.session.proofs.decode_rounds.Tie as tie
@@ -12,7 +13,7 @@ well-formed-requires c κs = search needs
 returns : tie.Need-returns
 returns c =
     let a = c .before .before .before .before .args in
-    pass-bad (a .src .now) (a .w) (a .at) (a .out .now) (a .to) (sym (c .before .well-formed .ensures) ∙ not-true _ (c .if1 .taken))
+    pass-bad (ofModel (a .w .shape .model)) (a .src .now) (a .w) (a .at) (a .out .now) (a .to) (sym (c .before .well-formed .ensures) ∙ not-true _ (c .if1 .taken))
 
 is-rest-requires : tie.Need-is-rest-requires
 is-rest-requires c κs = search needs
@@ -21,7 +22,7 @@ returns-2 : tie.Need-returns-2
 returns-2 c =
     let f = c .before .before in
     let a = f .before .before .before .before .args in
-    pass-stage (a .src .now) (a .w) (a .at) (a .out .now) (a .to) (sym (f .before .well-formed .ensures) ∙ not-false _ (f .if1 .left)) (sym (c .before .is-rest .ensures) ∙ not-true _ (c .if2 .taken))
+    pass-stage (ofModel (a .w .shape .model)) (a .src .now) (a .w) (a .at) (a .out .now) (a .to) (sym (f .before .well-formed .ensures) ∙ not-false _ (f .if1 .left)) (sym (c .before .is-rest .ensures) ∙ not-true _ (c .if2 .taken))
 
 decode-resting-requires : tie.Need-decode-resting-requires
 decode-resting-requires c κs =

@@ -3,11 +3,11 @@ use mathlib.Core.Path.{_≡_, ap, subst}
 use Prim.Native.Nat.{ℕ, _≤_, _<_, _-_}
 use native.Mathlib.Omega.{arith}
 use borrow.Author.Needs.{needs}
-use Rattle.unpack.specs.Unpacked.{nodeRule, markRule, unpacked-by, asked, pointer-low, formed-range, three-kinds}
+use Rattle.unpack.specs.Unpacked.{nodeRule, markRule, unpacked-by, asked, pointer-low, formed-range}
 use Rattle.closure.specs.Facts.{facts}
-use Rattle.steps.specs.Steps.{base}
-use Rattle.steps.specs.Models.{suited-base}
-use Rattle.plan.specs.Limits.{roomy-base}
+use Rattle.steps.specs.Models.{ofModel}
+use Rattle.steps.specs.Models.{suited-model}
+use Rattle.plan.specs.Limits.{roomy-model}
 use Rattle.flat.specs.Stored.{stored, stored-none, stored-next}
 use Rattle.flat.specs.declared.Sizes.{Sizes}
 use Rattle.shape.specs.LawsIndex.{nodes-max}
@@ -31,7 +31,7 @@ low c = let s = c .before .before .before .before .before .before .args .t1 in l
     below x y = omega arith
 
 sizes-requires : tie.Need-sizes-requires Inv-loop μ-loop
-sizes-requires c κs = formed-range base (c .before .args .t1) (c .before .pre .0)
+sizes-requires c κs = formed-range (ofModel (c .before .args .t1 .shape .model)) (c .before .args .t1) (c .before .pre .0)
 
 present-requires : tie.Need-present-requires Inv-loop μ-loop
 present-requires c κs = search needs
@@ -46,7 +46,7 @@ element-copy-out-node : tie.Need-element-copy-out-node Inv-loop μ-loop
 element-copy-out-node c = low c
 
 node-code-requires : tie.Need-node-code-requires Inv-loop μ-loop
-node-code-requires c κs = pointer-low base suited-base (c .before .before .before .before .before .before .before .args .t1) (facts base (c .before .before .before .before .before .before .before .args .t1) (c .before .before .before .before .before .before .before .pre .0)) _ (c .before .before .before .before .before .before .before .pre .1 .0) (roomy-base .kinds) (roomy-base .dirs) (c .before .before .loop .g) (inside (c .before))
+node-code-requires c κs = pointer-low (ofModel (c .before .before .before .before .before .before .before .args .t1 .shape .model)) (suited-model (c .before .before .before .before .before .before .before .args .t1 .shape .model)) (c .before .before .before .before .before .before .before .args .t1) (facts (ofModel (c .before .before .before .before .before .before .before .args .t1 .shape .model)) (c .before .before .before .before .before .before .before .args .t1) (c .before .before .before .before .before .before .before .pre .0)) _ (c .before .before .before .before .before .before .before .pre .1 .0) ((roomy-model (c .before .before .before .before .before .before .before .args .t1 .shape .model)) .kinds) ((roomy-model (c .before .before .before .before .before .before .before .args .t1 .shape .model)) .dirs) (c .before .before .loop .g) (inside (c .before))
 
 add-nodes : tie.Need-add-nodes Inv-loop μ-loop
 add-nodes c = omega (arith, low (c .before .before))
@@ -80,11 +80,11 @@ loop-again c = let l = c .before .before .before .before .loop in let w = c .bef
 )
 
 edges-kinds-requires : tie.Need-edges-kinds-requires Inv-loop μ-loop
-edges-kinds-requires c κs = asked base suited-base (c .before .before .before .before .before .before .before .before .before .before .args .t1) (facts base (c .before .before .before .before .before .before .before .before .before .before .args .t1) (c .before .before .before .before .before .before .before .before .before .before .pre .0)) (c .before .before .before .before .before .before .before .before .before .before .args .table .now) (c .before .before .before .before .before .before .before .before .before .before .pre .1 .0) (roomy-base .kinds) (c .before .before .before .before .before .before .before .before .sizes .result) (c .before .before .before .before .before .before .present .result) (c .before .before .before .before .before .before .before .before .sizes .ensures) (c .before .before .before .before .before .before .present .ensures) three-kinds
+edges-kinds-requires c κs = asked (ofModel (c .before .before .before .before .before .before .before .before .before .before .args .t1 .shape .model)) (suited-model (c .before .before .before .before .before .before .before .before .before .before .args .t1 .shape .model)) (c .before .before .before .before .before .before .before .before .before .before .args .t1) (facts (ofModel (c .before .before .before .before .before .before .before .before .before .before .args .t1 .shape .model)) (c .before .before .before .before .before .before .before .before .before .before .args .t1) (c .before .before .before .before .before .before .before .before .before .before .pre .0)) (c .before .before .before .before .before .before .before .before .before .before .args .table .now) (c .before .before .before .before .before .before .before .before .before .before .pre .1 .0) ((roomy-model (c .before .before .before .before .before .before .before .before .before .before .args .t1 .shape .model)) .kinds) (c .before .before .before .before .before .before .before .before .sizes .result) (c .before .before .before .before .before .before .present .result) (c .before .before .before .before .before .before .before .before .sizes .ensures) (c .before .before .before .before .before .before .present .ensures)
 
 returns : tie.Need-returns Inv-loop μ-loop
 returns c = let s = c .before .before .before .before .before .before .before .before .before .before .before in let l = c .before .before .before .before .before .before .loop in
-    unpacked-by base suited-base (s .args .t1) (facts base (c .before .before .before .before .before .before .before .before .before .before .before .args .t1) (c .before .before .before .before .before .before .before .before .before .before .before .pre .0)) (s .args .table .now) (s .pre .1 .0) (roomy-base .kinds) (c .before .before .before .before .before .before .before .before .before .sizes .result) (c .before .before .before .before .before .before .before .present .result) (l .g) (s .args .nodes .now) (s .args .marks .now) (s .args .edges .now) (l .nodes) (l .marks) _
+    unpacked-by (ofModel (s .args .t1 .shape .model)) (suited-model (s .args .t1 .shape .model)) (s .args .t1) (facts (ofModel (s .args .t1 .shape .model)) (c .before .before .before .before .before .before .before .before .before .before .before .args .t1) (c .before .before .before .before .before .before .before .before .before .before .before .pre .0)) (s .args .table .now) (s .pre .1 .0) ((roomy-model (s .args .t1 .shape .model)) .kinds) (c .before .before .before .before .before .before .before .before .before .sizes .result) (c .before .before .before .before .before .before .before .present .result) (l .g) (s .args .nodes .now) (s .args .marks .now) (s .args .edges .now) (l .nodes) (l .marks) _
     (s .pre .1 .1 .0) (s .pre .1 .1 .1) (s .pre .1 .1 .2) (c .before .before .before .before .before .before .before .before .before .sizes .ensures) (c .before .before .before .before .before .before .before .present .ensures) (omega (arith, c .before .before .before .before .before .loop-test .left, l .inv .0)) (l .inv .1) (l .inv .2) (c .edges-kinds .ensures)
 
 pub unpack-spec : {M : Type 1} → statement M

@@ -18,8 +18,8 @@ commit-requires c κs =
     let p = s .pre in
     let h = a .shape .height in
     let d = a .shape .distance in (
-      omega (arith, p .1 .1 .1 .0, layer-le h d (ranged h d (p .0))),
-      λ i l. place-low h d (p .0) (a .z) (p .1 .0) (a .table .now) (p .1 .1 .0) i (omega (arith, p .1 .1 .1 .0)),
+      omega (arith, p .1 .1 .1 .0, layer-le (a .shape .model) h d (ranged h d (p .0))),
+      λ i l. place-low (a .shape .model) h d (p .0) (a .z) (p .1 .0) (a .table .now) (p .1 .1 .0) i (omega (arith, p .1 .1 .1 .0)),
     )
 
 escape-requires : tie.Need-escape-requires

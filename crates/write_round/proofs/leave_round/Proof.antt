@@ -20,8 +20,8 @@ returns c =
     let k = c .before .before .before .before .leave-bits .ensures in
     let a = s .args in
     let p = s .pre in (
-      λ w e marks H. k .0 ∙ committed-is _ _ (p .0) (a .z) (p .1 .0) (a .table .now) (p .1 .1 .0) (a .nodes .now) (a .edges .now) (a .shape) refl refl w e marks H,
-      λ w e marks H. k .1 ∙ escaped-is _ _ (p .0) (a .z) (p .1 .0) (a .table .now) (p .1 .1 .0) (a .nodes .now) (a .edges .now) (a .shape) refl refl w e marks H,
+      λ w e marks H. k .0 ∙ committed-is (a .shape .model) _ _ (p .0) (a .z) (p .1 .0) (a .table .now) (p .1 .1 .0) (a .nodes .now) (a .edges .now) (a .shape) refl refl w e marks H,
+      λ w e marks H. k .1 ∙ escaped-is (a .shape .model) _ _ (p .0) (a .z) (p .1 .0) (a .table .now) (p .1 .1 .0) (a .nodes .now) (a .edges .now) (a .shape) refl refl w e marks H,
     )
 
 pub leave-round-spec : {M : Type 1} → statement M

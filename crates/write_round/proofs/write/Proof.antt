@@ -30,8 +30,8 @@ returns c =
     λ w e marks H.
     let t = sym (c .before .before .before .before .before .is-still .ensures) ∙ c .before .before .before .before .if1 .taken in
     written-same (a .shape) (a .steps) (a .out .now) (a .to) _ _ _ _ _ (c .before .before .write-quiet .ensures)
-    (sym (none-committed _ _ (p .0) (a .z) (p .1 .0) (a .table .now) (p .1 .1 .0) (a .nodes .now) (a .edges .now) t) ∙ committed-is _ _ (p .0) (a .z) (p .1 .0) (a .table .now) (p .1 .1 .0) (a .nodes .now) (a .edges .now) (a .shape) refl refl w e marks H)
-    (sym (none-escaped _ _ (p .0) (a .z) (p .1 .0) (a .table .now) (p .1 .1 .0) (a .nodes .now) (a .edges .now) t) ∙ escaped-is _ _ (p .0) (a .z) (p .1 .0) (a .table .now) (p .1 .1 .0) (a .nodes .now) (a .edges .now) (a .shape) refl refl w e marks H)
+    (sym (none-committed (a .shape .model) _ _ (p .0 .sizes) (a .z) (p .1 .0) (a .table .now) (p .1 .1 .0) (a .nodes .now) (a .edges .now) t) ∙ committed-is (a .shape .model) _ _ (p .0 .sizes) (a .z) (p .1 .0) (a .table .now) (p .1 .1 .0) (a .nodes .now) (a .edges .now) (a .shape) refl refl w e marks H)
+    (sym (none-escaped (a .shape .model) _ _ (p .0 .sizes) (a .z) (p .1 .0) (a .table .now) (p .1 .1 .0) (a .nodes .now) (a .edges .now) t) ∙ escaped-is (a .shape .model) _ _ (p .0 .sizes) (a .z) (p .1 .0) (a .table .now) (p .1 .1 .0) (a .nodes .now) (a .edges .now) (a .shape) refl refl w e marks H)
 
 write-lists-requires : tie.Need-write-lists-requires
 write-lists-requires c κs = search needs
@@ -46,8 +46,8 @@ returns-2 c =
     let p = s .pre in
     λ w e marks H.
     written-same (a .shape) (a .steps) (a .out .now) (a .to) _ _ _ _ _ (c .before .before .write-lists .ensures)
-    (committed-is _ _ (p .0) (a .z) (p .1 .0) (a .table .now) (p .1 .1 .0) (a .nodes .now) (a .edges .now) (a .shape) refl refl w e marks H)
-    (escaped-is _ _ (p .0) (a .z) (p .1 .0) (a .table .now) (p .1 .1 .0) (a .nodes .now) (a .edges .now) (a .shape) refl refl w e marks H)
+    (committed-is (a .shape .model) _ _ (p .0 .sizes) (a .z) (p .1 .0) (a .table .now) (p .1 .1 .0) (a .nodes .now) (a .edges .now) (a .shape) refl refl w e marks H)
+    (escaped-is (a .shape .model) _ _ (p .0 .sizes) (a .z) (p .1 .0) (a .table .now) (p .1 .1 .0) (a .nodes .now) (a .edges .now) (a .shape) refl refl w e marks H)
 
 pub write-spec : {M : Type 1} → statement M
 write-spec = tie.close (tie.spec is-still-requires write-quiet-requires same-length returns write-lists-requires same-length-2 returns-2)

@@ -17,14 +17,14 @@ edges-low c =
     let s = c .before .before in
     let h = s .args .shape .height in
     let d = s .args .shape .distance in
-    omega (arith, c .layer-edges .ensures, layer-le h d (ranged h d (s .pre .0)))
+    omega (arith, c .layer-edges .ensures, layer-le (s .args .shape .model) h d (ranged h d (s .pre .0 .sizes)))
 
 escapes-low : (c : tie.After-detectors) → c .detectors .result ≤ maxDetectors
 escapes-low c =
     let s = c .before .before .before in
     let h = s .args .shape .height in
     let d = s .args .shape .distance in
-    omega (arith, c .detectors .ensures, detectors-le h d (ranged h d (s .pre .0)))
+    omega (arith, c .detectors .ensures, detectors-le h d (ranged h d (s .pre .0 .sizes)))
 
 edges-lent : (c : tie.After-layer-edges) → length (take (c .layer-edges .result) (replicate {A = ℕ} maxLayerEdges 0)) ≡ c .layer-edges .result
 edges-lent c = length-take-le _ _ (edges-low c)

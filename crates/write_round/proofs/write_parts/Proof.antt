@@ -8,7 +8,7 @@ use Rattle.write_round.proofs.write_parts.Tie as tie
 leave-bits-requires : tie.Need-leave-bits-requires
 leave-bits-requires c κs =
     let p = c .before .before .before .before .before .pre in
-    (p .0, (p .1 .0, (p .1 .1 .0, (p .1 .1 .1 .0, p .1 .1 .1 .1 .0))))
+    (p .0 .sizes, (p .1 .0, (p .1 .1 .0, (p .1 .1 .1 .0, p .1 .1 .1 .1 .0))))
 
 put-round-requires : tie.Need-put-round-requires
 put-round-requires c κs =
@@ -16,7 +16,7 @@ put-round-requires c κs =
     let s = c .before .before .before .before .before .before .before .before .before .before .before .before .before in
     let a = s .args in
     let p = s .pre in
-    let x = committed-bits (a .table .now) (a .edges .now) (layerEdgesOf (a .shape .height) (a .shape .distance)) _ (k .0) in
+    let x = committed-bits (a .table .now) (a .edges .now) (layerEdgesOf (a .shape .model) (a .shape .height) (a .shape .distance)) _ (k .0) in
     let y = escaped-bits (a .z) (a .shape .height) (a .shape .distance) (a .nodes .now) _ (k .1) in
     (p .0, (x .long, (y .long, (x .bits, (y .bits, p .1 .1 .1 .1 .1)))))
 
