@@ -76,10 +76,10 @@ uint8_t baizeridge_scan_results(const uint8_t *src, size_t src_len, uint32_t *he
                                 uint32_t *model, size_t *rounds, size_t *place);
 
 /* Decodes a whole input stream into a result stream at the front of out. Returned is 0 where it was decoded to the
- * input's end, 254 where a round ended spent, else the refusal's number (11: out has no room for the next record). In
- * every case *count is the length of what was written: the header's bytes, if it was read and had room, and those of the
- * finished rounds; the bytes behind them stay as they were. With 7, 8 and 9 *place is the offset in src of the number's
- * first byte; else it stays as it was, with 0 too. */
+ * input's end, else the refusal's number (11: out has no room for the next record); 254, for a round that ended spent,
+ * is never returned. In every case *count is the length of what was written: the header's bytes, if it was read and had
+ * room, and those of the finished rounds; the bytes behind them stay as they were. With 7, 8 and 9 *place is the offset
+ * in src of the number's first byte; else it stays as it was, with 0 too. */
 uint8_t baizeridge_decode(const uint8_t *src, size_t src_len, uint8_t *out, size_t out_len, size_t *count,
                           size_t *place);
 
@@ -87,6 +87,10 @@ uint8_t baizeridge_decode(const uint8_t *src, size_t src_len, uint8_t *out, size
 size_t baizeridge_nodes(uint32_t height, uint32_t distance, uint32_t model);
 size_t baizeridge_detectors(uint32_t height, uint32_t distance, uint32_t model);
 size_t baizeridge_layer_edges(uint32_t height, uint32_t distance, uint32_t model);
+
+/* The most merging steps that a merging stage takes in a window of the shape, 4 N + 4 with N its nodes: if calls on a
+ * fresh window have left it not at rest, a run with this budget brings it there. 0 where the shape is refused. */
+size_t baizeridge_step_bound(uint32_t height, uint32_t distance, uint32_t model);
 
 #ifdef __cplusplus
 }

@@ -174,6 +174,12 @@ impl Window {
         Window { sheet, stage: Stage::Rest, next, layers, measured: vec![false; shape.detectors()] }
     }
 
+    /// Whether two windows of a shape hold the same.
+    pub fn same(&self, other: &Window) -> bool {
+        (self.stage, self.next, &self.layers, &self.measured)
+            == (other.stage, other.next, &other.layers, &other.measured)
+    }
+
     /// The round that a depth holds; the ghost sheet's depth is one more than the bottom's.
     fn round_at(&self, depth: usize) -> i64 {
         i64::from(self.next) - 1 - depth as i64

@@ -2,7 +2,8 @@
 //! `compare` holds every answer and every byte of the one against the other. `steps` has the directions of both models.
 //! `decoder` is a second decoder, which `decoding` takes through a whole stream, and `account` holds it to the law;
 //! `replay` plays scripts of `crates/replay` on it. `script` writes these, the stored one too, and random lists of calls;
-//! `image` has the windows that they edit. `dense` and `sparse` are decoders for the benchmark, a plain and a fast one.
+//! `image` has the windows that they edit. `stages` counts the steps of merging stages, and `tightest` has
+//! rounds with long ones. `dense` and `sparse` are decoders for the benchmark, a plain and a fast one.
 //! `cases`, `random` and `noise` make inputs, and `tally` and `covered` count what came of them; `repository` finds files.
 
 pub mod account;
@@ -20,6 +21,8 @@ pub mod replay;
 pub mod repository;
 pub mod script;
 pub mod sparse;
+pub mod stages;
 pub mod steps;
 pub mod streams;
 pub mod tally;
+pub mod tightest;

@@ -154,6 +154,7 @@ extern "C" {
     fn baizeridge_nodes(height: u32, distance: u32, model: u32) -> usize;
     fn baizeridge_detectors(height: u32, distance: u32, model: u32) -> usize;
     fn baizeridge_layer_edges(height: u32, distance: u32, model: u32) -> usize;
+    fn baizeridge_step_bound(height: u32, distance: u32, model: u32) -> usize;
 }
 
 /// A shape's sizes: the nodes of its window, the detectors of a sheet, the edges of a layer.
@@ -166,6 +167,12 @@ pub fn sizes([height, distance, model]: Name) -> [usize; 3] {
             baizeridge_layer_edges(height, distance, model),
         ]
     }
+}
+
+/// The most merging steps of a stage.
+pub fn step_bound([height, distance, model]: Name) -> usize {
+    // SAFETY: numbers in, a number out.
+    unsafe { baizeridge_step_bound(height, distance, model) }
 }
 
 const PLACE: usize = 0x5a5a_5a5a_5a5a_5a5a;

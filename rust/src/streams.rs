@@ -62,6 +62,11 @@ impl Shape {
         2 * (self.distance / 2) + 1
     }
 
+    /// Nodes of a window.
+    pub const fn nodes(self) -> usize {
+        self.height * (self.distance + 1) * self.sheets()
+    }
+
     /// Detectors of a sheet.
     pub const fn detectors(self) -> usize {
         self.height * (self.distance - 1)

@@ -117,6 +117,7 @@ fn the_stack_suffices_to_read_and_write() {
         proved::write_number(u32::MAX, &mut out, 0)?;
         proved::read_number(&out, 0)?;
         proved::sizes(name);
+        proved::step_bound(name);
         Ok::<_, Stop>((to_defects == defects, to_edges == edges))
     });
     assert_eq!(ran, Ok((true, true)));

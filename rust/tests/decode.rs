@@ -1,6 +1,6 @@
 //! The exported decoding of whole streams against the second decoder, which is held to the law on the way. No stream
-//! that we know spends the budget of a round, or has a defect escape; the script of `replay` has both, with small budgets
-//! and on edited windows.
+//! spends the budget of a round, and none that we know has a defect escape; the script of `replay` has both, with small
+//! budgets and on edited windows.
 
 use baizeridge_tests::account::Accounted;
 use baizeridge_tests::cases::{each_case, each_start, shapes, CHANCES};

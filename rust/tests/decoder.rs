@@ -373,7 +373,7 @@ impl List {
         };
         tally.status(answer.err().unwrap_or(DONE));
         self.accounted.check();
-        assert!(answer.is_ok() || same(&before, &self.accounted.window), "{:?}: refused", before.sheet.shape);
+        assert!(answer.is_ok() || before.same(&self.accounted.window), "{:?}: refused", before.sheet.shape);
     }
 
     /// A round whose lengths, bytes and number may be wrong.
@@ -417,11 +417,6 @@ fn merging(window: &mut Window) -> Result<(), u8> {
     let busy = window.merging()?;
     assert_eq!(!busy, window.stage == Stage::Rest);
     Ok(())
-}
-
-fn same(before: &Window, after: &Window) -> bool {
-    (before.stage, before.next, &before.layers, &before.measured)
-        == (after.stage, after.next, &after.layers, &after.measured)
 }
 
 /// The law after every call of a list on every shape: with rounds of both kinds, more than 2s of them received, and

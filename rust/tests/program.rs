@@ -1,6 +1,6 @@
 //! The program `decode`: standard input, standard output and standard error. Unless a signal ends it, its status is 0: a
-//! program in Rattle has no exit status, and the line on standard error tells what went wrong. No stream that we know ends
-//! `spent` with the program's budget; small budgets are in the script of `replay`.
+//! program in Rattle has no exit status, and the line on standard error tells what went wrong. No stream ends `spent`
+//! with the program's budget; small budgets are in the script of `replay`.
 
 use baizeridge_tests::cases::{each_case, shapes};
 use baizeridge_tests::decoder::Window;

@@ -96,6 +96,8 @@ static void sizes(void) {
     EXPECT(baizeridge_detectors(1, 3, 1) == 2 && baizeridge_detectors(16, 3, 0) == 0);
     EXPECT(baizeridge_layer_edges(1, 3, 0) == 5 && baizeridge_layer_edges(1, 3, 1) == 6);
     EXPECT(baizeridge_layer_edges(1, 259, 0) == 0 && baizeridge_layer_edges(1, 3, 256) == 0);
+    EXPECT(baizeridge_step_bound(1, 3, 0) == 52 && baizeridge_step_bound(15, 15, 1) == 14404);
+    EXPECT(baizeridge_step_bound(0, 3, 0) == 0 && baizeridge_step_bound(1, 3, 2) == 0);
 }
 
 /* NULL with length 0, wherever a slice stands. */

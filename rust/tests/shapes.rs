@@ -1,6 +1,6 @@
 use baizeridge_tests::cases::{shapes, WILD, WILD_MODELS};
 use baizeridge_tests::decoder::Sheet;
-use baizeridge_tests::proved::sizes;
+use baizeridge_tests::proved::{sizes, step_bound};
 use baizeridge_tests::streams::{Name, Shape, MODELS};
 
 /// By the sheet that the second decoder builds; none where the shape is refused.
@@ -58,13 +58,14 @@ const NODES: [[usize; 14]; 15] = [
     [135, 180, 375, 450, 735, 840, 1215, 1350, 1815, 1980, 2535, 2730, 3375, 3600],
 ];
 
+fn listed(height: u32, distance: u32) -> Option<usize> {
+    let line = NODES.get((height as usize).checked_sub(1)?)?;
+    line.get((distance as usize).checked_sub(2)?).copied()
+}
+
 /// What a caller sees is the number in the table, and 0 for a refused shape.
 #[test]
 fn nodes_by_the_table() {
-    let listed = |height: u32, distance: u32| {
-        let line = NODES.get((height as usize).checked_sub(1)?)?;
-        line.get((distance as usize).checked_sub(2)?).copied()
-    };
     let mut accepted = 0;
     for height in numbers() {
         for distance in numbers() {
@@ -76,6 +77,22 @@ fn nodes_by_the_table() {
         }
     }
     assert_eq!([2 * accepted, shapes().len()], [420; 2]);
+}
+
+/// 4 N + 4 by the table, and 0 for a refused shape.
+#[test]
+fn step_bounds() {
+    let numbers = || (0..=17).chain([256, 256 + 3, 65_536, 65_536 + 3, 1 << 31, u32::MAX]);
+    for height in numbers() {
+        for distance in numbers() {
+            for model in (0..=2).chain([256, 65_536, u32::MAX]) {
+                let nodes = listed(height, distance).filter(|_| MODELS.contains(&model));
+                let bound = nodes.map_or(0, |nodes| 4 * nodes + 4);
+                assert_eq!(step_bound([height, distance, model]), bound, "{height} by {distance}, model {model}");
+            }
+        }
+    }
+    assert_eq!([(1, 2), (3, 3), (15, 15)].map(|(h, d)| step_bound([h, d, 1])), [40, 148, 14_404]);
 }
 
 #[test]

@@ -7,7 +7,7 @@ use mathlib.Core.List.{List, [], _∷_}
 use mathlib.Core.Logic.{⊎-elim}
 use lib.Dec.{eqb}
 use lib.ListN.{length, getD, List·getD-eq-default}
-use Rattle.shape.specs.Sizes.{inRange, sheetsOf}
+use Rattle.shape.specs.Sizes.{IsShape, inRange, sheetsOf}
 use Rattle.steps.specs.Steps.{Table, step, namer}
 use Rattle.steps.specs.Suited.{Suited}
 use Rattle.steps.specs.Models.{ofModel, suited-model}
@@ -16,7 +16,7 @@ use Rattle.layers.specs.Layers.{edgeOf, layerEdges}
 use Rattle.layers.specs.Document.{count-model}
 use Rattle.layers.specs.declared.Edge.{Edge}
 use Rattle.shape.specs.declared.Shape.{Shape}
-use Rattle.record.specs.Records.{IsShape, Result}
+use Rattle.record.specs.Records.{Result}
 use Rattle.trip.specs.Streams.{Stream}
 use Rattle.window.specs.Lists.{bit}
 use Rattle.window.specs.LawsLists.{and-not}

@@ -9,7 +9,7 @@ use lib.Dec.{ltb}
 use lib.ListN.{length, replicate}
 use Rattle.refusal.specs.Answer.{done, ended}
 use Rattle.refusal.specs.Bytes.{Bytes}
-use Rattle.refusal.specs.Done.{Went, went, took}
+use Rattle.refusal.specs.Done.{took}
 use Rattle.number.specs.Number.{largest}
 use Rattle.list.specs.Sheet.{listAt}
 use Rattle.list.specs.Trip.{ListWrites, list-writes}
@@ -24,15 +24,14 @@ use Rattle.window.specs.Round.{rounded, committedEdges, escapedDefects}
 use Rattle.window.specs.Grow.{grown}
 use Rattle.window.specs.Merging.{merged}
 use Rattle.window.specs.Run.{stepsFrom, ran}
-use Rattle.window.specs.LawsRun.{steps-rest, steps-on, none-left}
+use Rattle.window.specs.LawsRun.{steps-rest, steps-on, none-left, ran-count}
 use Rattle.window.specs.Calls.{Round, receiving, roundCall, runCall}
 use Rattle.window.specs.declared.Ran.{Ran}
 use Rattle.window.specs.declared.Window.{Window}
 use Rattle.closure.specs.Done.{accepted, staged}
 use Rattle.closure.specs.Run.{run-keeps}
 use Rattle.decoding.specs.Decoding.{budget, Turn, wrote, turnAt, recordAt}
-use Rattle.decoding.specs.Lengths.{count-most}
-use Rattle.decoding.specs.LawsTurn.{detectors, edges, onRan, onRound, onBytes, turn-steps, committed-long, committed-bits, escaped-long, escaped-bits}
+use Rattle.decoding.specs.LawsTurn.{detectors, edges, committed-long, committed-bits, escaped-long, escaped-bits, turn-made}
 use Rattle.decoding.specs.LawsDecoding.{record-written}
 
 -- WHAT A RUN COUNTS, and where it says that it came to rest
@@ -48,9 +47,8 @@ steps-end T (suc n) made w e = go (isRest (merged T w .stage)) refl (steps-end T
     go false k on = rw (steps-on T made w n k) (on (sym (ap (λ (r : Ran). r .rest) (steps-on T made w n k)) ∙ e))
 
 module _ (T : Table) (w : Window) where
-  ran-count : ran T budget w .count ≤ largest
-  unfolding ran
-  ran-count = let l = count-most T budget 0 (if (isToGrow (w .stage)) (grown T w) w) in omega arith
+  count-fits : ran T budget w .count ≤ largest
+  count-fits = omega (arith, ran-count T budget w)
 
   ran-rests : ran T budget w .rest ≡ true → isRest (ran T budget w .window .stage) ≡ true
   unfolding ran
@@ -76,31 +74,20 @@ pub record ByCalls (T : Table) (s : List ℕ) (w : Window) (at : ℕ) (bytes : L
 
 module _ (T : Table) (s : List ℕ) (w : Window) (at : ℕ) (bytes : List ℕ) (v : Window) (next : ℕ) (t : Turn)
     (made : bytes ≡ result (t .result)) (window : t .window ≡ v) (rest : t .rest ≡ true) where
-  by-run : (sheet : List ℕ) (mid : ℕ) → roundAt s (detectors w) at ≡ done sheet mid
-      → (r : Round) (z : ℕ) → roundCall T w sheet (replicate {A = ℕ} (edges T w) 0) (replicate {A = ℕ} (detectors w) 0) ≡ done r z
-      → Went (runCall T (r .window) budget) (onRan T w r mid) t next
-      → ByCalls T s w at bytes v next
-  by-run sheet mid e r z f d =
-      let m : Turn = record { window = d .value .window; result = record { edges = r .edges; escapes = r .escapes; steps = d .value .count }; rest = d .value .rest } in
-      let same : m ≡ t = cc (d .after) in
-      let k : mid ≡ next = cc (d .after) in
-      record {
-        sheet = sheet;
-        round = r;
-        run = d .value;
-        reads = e ∙ ap (λ (i : ℕ). done sheet i) k;
-        receives = (z, f);
-        runs = (d .next, d .before);
-        makes = made ∙ ap (λ (u : Turn). result (u .result)) (sym same);
-        window = ap (λ (u : Turn). u .window) same ∙ window;
-        rests = ap (λ (u : Turn). u .rest) same ∙ rest;
-      }
-
   by-turn : turnAt T s w at ≡ done t next → ByCalls T s w at bytes v next
   by-turn e =
-      let a = went (roundAt s (detectors w) at) (onBytes T w) t next (sym (turn-steps T w s at) ∙ e) in
-      let b = went (roundCall T w (a .value) (replicate {A = ℕ} (edges T w) 0) (replicate {A = ℕ} (detectors w) 0)) (onRound T w (a .next)) t next (a .after) in
-      by-run (a .value) (a .next) (a .before) (b .value) (b .next) (b .before) (went (runCall T (b .value .window) budget) (onRan T w (b .value) (a .next)) t next (b .after))
+      let m = turn-made T s w at t next e in
+      record {
+        sheet = m .sheet;
+        round = m .round;
+        run = m .run;
+        reads = m .reads;
+        receives = m .receives;
+        runs = m .runs;
+        makes = made ∙ ap (λ (u : Turn). result (u .result)) (sym (m .gives));
+        window = ap (λ (u : Turn). u .window) (m .gives) ∙ window;
+        rests = ap (λ (u : Turn). u .rest) (m .gives) ∙ rest;
+      }
 
 pub by-calls : (T : Table) (s : List ℕ) (size : ℕ) (w : Window) (at to : ℕ) (bytes : List ℕ) (v : Window) (next : ℕ) → recordAt T s size w at to ≡ wrote bytes v next
     → ByCalls T s w at bytes v next
@@ -152,7 +139,7 @@ module _ (T : Table) (s : List ℕ) (w : Window) (at : ℕ) (bytes : List ℕ) (
         record {
           edges = record { size = rw a (committed-long T w ∙ ap (λ (x : Shape). layerEdges T (x .height) (x .distance)) same ∙ K); bits = rw a (committed-bits T w) };
           escapes = record { size = rw b (escaped-long w ∙ ap detectorsIn same); bits = rw b (escaped-bits w) };
-          steps = rw c (ran-count T (p .round .window));
+          steps = rw c (count-fits T (p .round .window));
         }
 
   pub by-sheet : Bytes s → ListWrites s (detectors w) at (p .sheet) next

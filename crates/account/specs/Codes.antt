@@ -1,4 +1,4 @@
--- STATUS 0 of a decoding says that it finished: no refusal in it has the number 0. Assumes nothing.
+-- STATUS 0 of a decoding says that it finished, and 254 that a round is spent: no refusal in it has one of these numbers. Assumes nothing.
 use Prim.Native.Nat.{ℕ, zero, suc, _+_, _-_, _*_}
 use mathlib.Core.Path.{_≡_, refl, sym, _∙_, ap}
 use mathlib.Core.Bool.{Bool, true, false, not, _&&_}
@@ -24,13 +24,17 @@ use Rattle.decoding.specs.LawsTurn.{detectors, onRan, onRound, onBytes}
 use Rattle.decoding.specs.LawsDecoding.{onHeader}
 use Rattle.reply.specs.Reply.{concluded}
 
--- ANSWERS, by their steps and tests: no refusal has the number 0
+-- a refusal's number
+abbrev isCode : ℕ → Bool
+isCode n = ltb 0 n && ltb n 254
+
+-- ANSWERS, by their steps and tests: every refusal has such a number
 
 data Coded {A : Type 0} : Answer A → Type 0 where
   value : {v : A} {next : ℕ} → Coded (done v next)
   end : Coded ended
-  number : {n : ℕ} → eqb n 0 ≡ false → Coded (refused n)
-  number-at : {n at : ℕ} → eqb n 0 ≡ false → Coded (refusedAt n at)
+  number : {n : ℕ} → isCode n ≡ true → Coded (refused n)
+  number-at : {n at : ℕ} → isCode n ≡ true → Coded (refusedAt n at)
 
 coded-then : {A B : Type 0} {a : Answer A} {f : A → ℕ → Answer B} → Coded a → ((v : A) (next : ℕ) → Coded (f v next)) → Coded (andThen a f)
 coded-then value k = k _ _
@@ -42,10 +46,10 @@ coded-test : {A : Type 0} (t : Bool) {a b : Answer A} → Coded a → Coded b �
 coded-test true h k = h
 coded-test false h k = k
 
--- nor has any of these tests
+-- and so has each of these tests
 abbrev Numbered : List (Bool × ℕ) → Type 0
 Numbered [] = Unit {0}
-Numbered (t ∷ ts) = (eqb (t .1) 0 ≡ false) × Numbered ts
+Numbered (t ∷ ts) = (isCode (t .1) ≡ true) × Numbered ts
 
 coded-tests : {A : Type 0} (tests : List (Bool × ℕ)) {a : Answer A} → Numbered tests → Coded a → Coded (unless tests a)
 coded-tests [] n h = h
@@ -95,11 +99,11 @@ turn-coded T s w at =
     coded-then {f = onRound T w next} (coded-tests (roundTests T w bytes _ _) (refl, (refl, (refl, (refl, (refl, (refl, (refl, tt))))))) value) (λ r z.
     coded-then {f = onRan T w r next} (coded-tests (stateTests T (r .window) (not (isRest (r .window .stage)))) (refl, (refl, tt)) value) (λ v z. value)))
 
--- how a decoding ends: a refusal's number is not 0
+-- how a decoding ends
 abbrev LineCoded : Line → Type 0
 LineCoded finished = Unit {0}
 LineCoded spent = Unit {0}
-LineCoded (turnedBack c) = eqb (status (byCode {A = Unit {0}} c)) 0 ≡ false
+LineCoded (turnedBack c) = isCode (status (byCode {A = Unit {0}} c)) ≡ true
 
 abbrev RecordCoded : Recorded → Type 0
 RecordCoded (wrote bytes v next) = Unit {0}
@@ -156,9 +160,17 @@ module _ (s : List ℕ) (size : ℕ) where
 
   -- what a caller sees of it
   pub status-finished : (place : ℕ) → concluded (decoded s size .line) place .status ≡ 0 → decoded s size .line ≡ finished
-  status-finished place e = go (decoded s size .line) decoded-coded (ap (λ (n : ℕ). eqb n 0) e)
+  status-finished place e = go (decoded s size .line) decoded-coded (ap isCode e) (ap (λ (n : ℕ). eqb n 254) e)
     where
-      go : (l : Line) → LineCoded l → eqb (concluded l place .status) 0 ≡ true → l ≡ finished
-      go finished h e = refl
-      go spent h e = absurd (undone (sym e))
-      go (turnedBack c) h e = absurd (undone (sym e ∙ h))
+      go : (l : Line) → LineCoded l → isCode (concluded l place .status) ≡ false → eqb (concluded l place .status) 254 ≡ false → l ≡ finished
+      go finished h e f = refl
+      go spent h e f = absurd (undone f)
+      go (turnedBack c) h e f = absurd (undone (sym h ∙ e))
+
+  pub status-spent : (place : ℕ) → concluded (decoded s size .line) place .status ≡ 254 → decoded s size .line ≡ spent
+  status-spent place e = go (decoded s size .line) decoded-coded (ap isCode e) (ap (λ (n : ℕ). eqb n 0) e)
+    where
+      go : (l : Line) → LineCoded l → isCode (concluded l place .status) ≡ false → eqb (concluded l place .status) 0 ≡ false → l ≡ spent
+      go finished h e f = absurd (undone f)
+      go spent h e f = refl
+      go (turnedBack c) h e f = absurd (undone (sym h ∙ e))

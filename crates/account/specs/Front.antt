@@ -3,12 +3,13 @@ use Prim.Native.Nat.{ℕ, zero, suc, _+_}
 use mathlib.Core.Path.{_≡_, refl, sym, _∙_, ap}
 use mathlib.Core.List.{List, [], _∷_, _++_, append-assoc}
 use lib.ListN.{length, take, drop}
+use Rattle.shape.specs.Sizes.{IsShape}
 use Rattle.refusal.specs.Answer.{done}
 use Rattle.refusal.specs.Done.{goes-on, went, never}
 use Rattle.refusal.specs.Filling.{drop-part}
 use Rattle.list.specs.Sheet.{listed}
 use Rattle.shape.specs.declared.Shape.{Shape}
-use Rattle.record.specs.Records.{IsShape, headerAt}
+use Rattle.record.specs.Records.{headerAt}
 use Rattle.trip.specs.Streams.{Stream, allBytes, recordsAt, streamOf, roundOf, inputOf}
 use Rattle.trip.specs.Fits.{Each, RoundFits}
 use Rattle.trip.specs.Kinds.{round-kind}

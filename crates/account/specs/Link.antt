@@ -166,11 +166,25 @@ fresh-model : (T : Table) (height distance model : ℕ) (w : Window) (n : ℕ) �
 unfolding freshWindow
 fresh-model T height distance model w n e = ap (λ (u : Window). u .shape .model) (sym (started T height distance model w n e .value))
 
-pub reached : Reaches
-reached height distance model n x e d p k =
+-- calls by their promises on a fresh window that is done are a list of the law's calls, all of its model
+pub record AsList (height distance model n : ℕ) (fresh : Window) (p : Played) : Type 0 where
+  pub created : freshCall (ofModel model) height distance model ≡ done fresh n
+  pub calls : List Call
+  pub plays : play (ofModel model) (start fresh) calls ≡ p
+  pub model-is : p .window .shape .model ≡ model
+
+pub as-list : (height distance model n : ℕ) (x : Answered (Unit {0})) → x ≡ leaves (freshCall (ofModel model) height distance model) itself noWindow → x .answer ≡ done tt n
+    → (p : Played) → Promised (x .window) p → AsList height distance model n (x .window) p
+as-list height distance model n x e d p k =
     let T = ofModel model in
     let f : freshCall T height distance model ≡ done (x .window) n =
     linked T .fresh height distance model n (ap (λ (y : Answered (Unit {0})). y .answer) (sym e) ∙ d) ∙ ap (λ (y : Answered (Unit {0})). done (y .window) n) (sym e) in
     let law = demand3-model model height distance model (x .window) n f in
-    let l = listed model (x .window) (fresh-model T height distance model (x .window) n f) law p k in
-    subst (Law T (x .window)) (l .1) (law (l .0))
+    let has = fresh-model T height distance model (x .window) n f in
+    let l = listed model (x .window) has law p k in
+    record { created = f; calls = l .0; plays = l .1; model-is = model-is model (x .window) has law p l }
+
+pub reached : Reaches
+reached height distance model n x e d p k =
+    let l = as-list height distance model n x e d p k in
+    subst (Law (ofModel model) (x .window)) (l .plays) (demand3-model model height distance model (x .window) n (l .created) (l .calls))

@@ -21,7 +21,7 @@ use Rattle.account.specs.Follow.{Followed, followed, withoutRaw}
 
 -- ONE LIST BEHIND ANOTHER
 
-each-append : {A : Type 0} (P : A → Type 0) (xs ys : List A) → Each P xs → Each P ys → Each P (xs ++ ys)
+pub each-append : {A : Type 0} (P : A → Type 0) (xs ys : List A) → Each P xs → Each P ys → Each P (xs ++ ys)
 each-append P [] ys f g = g
 each-append P (x ∷ xs) ys f g = (f .0, each-append P xs ys (f .1) g)
 

@@ -7,13 +7,14 @@ use mathlib.Core.List.{List, [], _++_, append-assoc, append-nil}
 use lib.Dec.{leb}
 use lib.ListN.{length, drop, length-append}
 use lib.Seq.{drop-length}
+use Rattle.shape.specs.Sizes.{IsShape}
 use Rattle.refusal.specs.Answer.{Answer, done, ended, refused, refusedAt, plain}
 use Rattle.refusal.specs.Bytes.{Bytes}
 use Rattle.shape.specs.Choice.{if}
 use Rattle.steps.specs.Steps.{Table}
 use Rattle.shape.specs.declared.Shape.{Shape}
 use Rattle.list.specs.Sheet.{listed}
-use Rattle.record.specs.Records.{IsShape, header, headerAt, Result}
+use Rattle.record.specs.Records.{header, headerAt, Result}
 use Rattle.record.specs.Laws.{length-header}
 use Rattle.trip.specs.Streams.{Stream, allBytes, bytesOf, inputOf, inputBytes, resultsOf, resultBytes}
 use Rattle.trip.specs.Fits.{InputFits, ResultFits, edgesIn}
@@ -125,7 +126,7 @@ module _ (s : List ℕ) (size : ℕ) (b : Bytes s) where
     receipts = ap (λ (p : Played). p .receipts) plays
 
     law : Law (table sh) (fresh sh) (playedOf input)
-    law = theorem.law (table sh) (suited-model (sh .model)) sh (range sh next e .sizes) (range sh next e .model) (callsOf sh (f .rounds))
+    law = theorem.law (table sh) (suited-model (sh .model)) sh (range sh next e) (callsOf sh (f .rounds))
 
     shape : playedOf input .window .shape ≡ sh
     shape = law .shape ∙ fresh-shape sh

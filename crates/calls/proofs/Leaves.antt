@@ -1,10 +1,10 @@
 -- What a call leaves, by what its tests say. Assumes nothing.
 use Prim.Native.Nat.{ℕ}
-use mathlib.Core.Path.{_≡_, refl, sym, _∙_, ap}
-use mathlib.Core.Bool.{Bool, true, false, not}
+use mathlib.Core.Path.{_≡_, sym, _∙_, ap}
+use mathlib.Core.Bool.{Bool, false, not}
 use mathlib.Core.List.{List}
 use Rattle.refusal.specs.Answer.{Answer, done, turned, unless, valueOr, andThen, itself}
-use Rattle.refusal.specs.Laws.{undone, turned-not, turned-passed, value-not, turned-as}
+use Rattle.refusal.specs.Laws.{turned-not, turned-passed, value-not, turned-as}
 use Rattle.refusal.specs.Tests.{Passes, Turned}
 use Rattle.refusal.specs.declared.Refusal.{Refusal}
 use Rattle.shape.specs.Choice.{whether}
@@ -18,11 +18,9 @@ use Rattle.window.specs.declared.Window.{Window}
 use Rattle.calls.specs.Answers.{mergingLeaves, Ended, endedBy, runLeaves}
 use Rattle.window.specs.Grow.{grown}
 use Rattle.window.specs.Run.{ran}
-use Rattle.window.specs.LawsRun.{steps-rest, steps-on, none-left}
-use Rattle.window.specs.declared.Stage.{Stage}
-use Rattle.window.specs.declared.Stage.the-variants.{Rest, ToGrow, Merging}
+use Rattle.window.specs.LawsRun.{steps-rest, steps-on, none-left, ran-merging}
 use Rattle.window.specs.declared.Ran.{Ran}
-use Rattle.shows.specs.Run.{ran-merging}
+use Rattle.closure.specs.States.{merging-on}
 use Rattle.tested.proofs.State.{fine, state-turned, state-passes, state-fine}
 
 -- A WINDOW'S ANSWER
@@ -50,12 +48,6 @@ module _ (w : Window) (b : Bool) (same : b ≡ isToGrow (w .stage)) (r : Called)
       ∙ leaves-done (stateTests (ofModel (w .shape .model)) w (isToGrow (w .stage))) (grown (ofModel (w .shape .model)) w) itself w (state-passes w b (isToGrow (w .stage)) same r as-told z)
 
 -- MERGING
-
--- neither rest nor to grow
-pub merging-on : (s : Stage) → isMerging s ≡ true → (isRest s ≡ false) × (isToGrow s ≡ false)
-merging-on Rest e = absurd (undone (sym e))
-merging-on ToGrow e = absurd (undone (sym e))
-merging-on Merging e = (refl, refl)
 
 -- a step is a run of one
 one-step : (w : Window) → isToGrow (w .stage) ≡ false → ran (ofModel (w .shape .model)) 1 w ≡ record { window = merged (ofModel (w .shape .model)) w; rest = isRest (merged (ofModel (w .shape .model)) w .stage); count = 1 }

@@ -6,7 +6,7 @@ use mathlib.Core.List.{List}
 use borrow.Author.Tests.{not-true}
 use lib.ListN.{length}
 use Rattle.refusal.specs.Answer.{done}
-use Rattle.shape.specs.Sizes.{inRange, modelOk, detectorsOf}
+use Rattle.shape.specs.Sizes.{IsShape, detectorsOf}
 use Rattle.steps.specs.Steps.{Table}
 use Rattle.shape.specs.declared.Shape.{Shape}
 use Rattle.window.specs.Window.{isRest, isToGrow, isMerging}
@@ -48,8 +48,8 @@ pub record Closed (T : Table) : Type 0 where
 
 -- THE RULES
 
-pub kept-fresh : (T : Table) (sh : Shape) → inRange (sh .height) (sh .distance) ≡ true → modelOk (sh .model) ≡ true → Kept T (freshWindow T sh)
-kept-fresh T sh e m = record { formed = fresh T sh e m; sized = fresh-sized T sh }
+pub kept-fresh : (T : Table) (sh : Shape) → IsShape sh → Kept T (freshWindow T sh)
+kept-fresh T sh range = record { formed = fresh T sh range; sized = fresh-sized T sh }
 
 module _ (T : Table) (S : Suited T) where
   module _ (w : Window) (k : Kept T w) where
@@ -82,7 +82,7 @@ module _ (T : Table) (S : Suited T) where
   fresh-done : (h d m : ℕ) (v : Window) (n : ℕ) → freshCall T h d m ≡ done v n → Kept T v
   fresh-done h d m v n e =
       let x = started T h d m v n e in
-      subst (λ (u : Window). Kept T u) (x .value) (kept-fresh T (record { height = h; distance = d; model = m }) (x .ranged) (x .modelled))
+      subst (λ (u : Window). Kept T u) (x .value) (kept-fresh T (record { height = h; distance = d; model = m }) (x .range))
 
   module _ (w : Window) (s : Sized T w) where
     round-done : (bytes edges escapes : List ℕ) (v : Round) (n : ℕ) → roundCall T w bytes edges escapes ≡ done v n → Kept T (v .window)

@@ -12,7 +12,7 @@ use Rattle.refusal.specs.Tests.{tests-done}
 use Rattle.list.specs.Sheet.{areBits}
 use Rattle.layers.specs.Layers.{layerEdges}
 use Rattle.shape.specs.Ranges.{both}
-use Rattle.shape.specs.Sizes.{heightOk, distanceOk, modelOk, inRange, shapeOf, detectorsOf}
+use Rattle.shape.specs.Sizes.{heightOk, distanceOk, modelOk, IsShape, shapeOf, detectorsOf}
 use Rattle.steps.specs.Steps.{Table}
 use Rattle.shape.specs.declared.Shape.{Shape}
 use Rattle.window.specs.Window.{isRest, maxNext}
@@ -31,8 +31,7 @@ leaves-keeps P (refusedAt n at) of w k e = k
 -- FRESH
 
 pub record Started (T : Table) (height distance model : ℕ) (w : Window) : Type 0 where
-  pub ranged : inRange height distance ≡ true
-  pub modelled : modelOk model ≡ true
+  pub range : IsShape (record { height = height; distance = distance; model = model })
   pub value : freshWindow T (record { height = height; distance = distance; model = model }) ≡ w
 
 pub started : (T : Table) (h d m : ℕ) (w : Window) (n : ℕ) → freshCall T h d m ≡ done w n → Started T h d m w
@@ -44,7 +43,7 @@ started T h d m w n e =
     let c = took (modelOk m) _ (refused 31) (x .value) (x .next) refl (b .1) in
     let sh : Shape = record { height = h; distance = d; model = m } in
     let same : sh ≡ x .value = tests-done [] sh (x .value) 0 (x .next) (c .1) in
-    record { ranged = both _ _ (a .0) (b .0); modelled = c .0; value = ap (λ (s : Shape). freshWindow T s) same ∙ tests-done [] (freshWindow T (x .value)) w (x .next) n (x .after) }
+    record { range = record { sizes = both _ _ (a .0) (b .0); model = c .0 }; value = ap (λ (s : Shape). freshWindow T s) same ∙ tests-done [] (freshWindow T (x .value)) w (x .next) n (x .after) }
 
 -- GROW, MERGING AND RUN
 

@@ -5,7 +5,7 @@ use mathlib.Core.Path.{_≡_, refl, _∙_, ap}
 use mathlib.Core.Bool.{Bool, true, false, _&&_, not}
 use borrow.Author.Tests.{lt-ltb}
 use lib.ListN.{replicate, length-replicate}
-use Rattle.shape.specs.Sizes.{boundary, inRange, modelOk, nodesOf, detectorsOf, maxNodes, maxDetectors}
+use Rattle.shape.specs.Sizes.{IsShape, boundary, nodesOf, detectorsOf, maxNodes, maxDetectors}
 use Rattle.shape.specs.Ranges.{Ranged, ranged}
 use Rattle.shape.specs.Nodes.{numberOf, placeAt}
 use Rattle.steps.specs.Steps.{Table, slotIn}
@@ -31,16 +31,16 @@ alone-fits T stage h d there led r g l x e a =
 pub empty : (there : Bool) (n : ℕ) (c : Bool) → n ≡ 0 → c ≡ false → Slot there n c
 empty there n c e f = record { most = omega arith; used = other there (isEmpty n && not c) (rw (e, f)) }
 
-module _ (T : Table) (sh : Shape) (e : inRange (sh .height) (sh .distance) ≡ true) (m : modelOk (sh .model) ≡ true) where
+module _ (T : Table) (sh : Shape) (range : IsShape sh) where
   fresh-facts : Facts T (freshWindow T sh)
   unfolding freshWindow
   fresh-facts =
       let h = sh .height in
       let d = sh .distance in
-      let r = ranged h d e in
+      let r = ranged h d (range .sizes) in
       record {
         ranged = r;
-        model = m;
+        model = range .model;
         next = omega arith;
         nodes = λ g l. rw (fresh-at T sh g l) (alone-fits T Rest h d _ _ r g l false (no-defect (boundary d (placeAt h d g .column))) (λ m. refl));
         slots = λ g kind l m. empty _ _ _ (getD-same {A = ℕ} 0 (slotsOf T) (slotIn (nodesOf h d) kind g)) (getD-same false (slotsOf T) (slotIn (nodesOf h d) kind g));

@@ -35,7 +35,7 @@ module _ (f : ℕ → Seen) (u : Bool) where
   pub data ScanOutcome (i n p : ℕ) (b : Bool) (m : ℕ) : Flooded → Type 0 where
     passed : Passes i n m → ScanOutcome i n p b m (flooded u p (Root m) b)
     lowered : {a j : ℕ} → a < m → j < i + n → f j .grown ≡ true → f j .mark ≡ Root a → Passes i n a → ScanOutcome i n p b m (flooded u (j + 1) (Root a) true)
-    stopped : u ≡ false → ScanOutcome i n p b m (flooded u 0 Reset true)
+    stopped : {j : ℕ} → u ≡ false → j < i + n → f j .grown ≡ true → f j .mark ≡ Reset → ScanOutcome i n p b m (flooded u 0 Reset true)
 
   module _ (i n : ℕ) where
     -- one neighbour more, before the others
@@ -50,13 +50,13 @@ module _ (f : ℕ → Seen) (u : Bool) where
     pass : (p : ℕ) (b : Bool) (m : ℕ) (r : Flooded) → (f i .grown ≡ true → Above u m (f i .mark)) → ScanOutcome (suc i) n p b m r → ScanOutcome i (suc n) p b m r
     pass p b m r t (passed h) = passed (more m t h)
     pass p b m r t (lowered {a = a} {j = j} l hi e s h) = lowered {a = a} {j = j} l (omega arith) e s (more a (λ x. lower (omega arith) (t x)) h)
-    pass p b m r t (stopped e) = stopped e
+    pass p b m r t (stopped {j = j} z hi o s) = stopped {j = j} z (omega arith) o s
 
     -- its mark a is taken
     take : (p : ℕ) (b : Bool) (m a : ℕ) (r : Flooded) → a < m → f i .grown ≡ true → f i .mark ≡ Root a → ScanOutcome (suc i) n (i + 1) true a r → ScanOutcome i (suc n) p b m r
     take p b m a r l e s (passed h) = lowered {j = i} l (omega arith) e s (more a (λ x. higher s (omega arith)) h)
     take p b m a r l e s (lowered {a = c} {j = j} k hi e' s' h) = lowered {a = c} {j = j} (omega arith) (omega arith) e' s' (more c (λ x. higher s (omega arith)) h)
-    take p b m a r l e s (stopped z) = stopped z
+    take p b m a r l e s (stopped {j = j} z hi o s') = stopped {j = j} z (omega arith) o s'
 
     -- whichever it is
     one : (grown : Bool) (mark : Mark) (x : Bool) (p : ℕ) (b : Bool) (m : ℕ) (past : Flooded) (on : ℕ → Flooded) → f i .grown ≡ grown → f i .mark ≡ mark → u ≡ x
@@ -65,7 +65,7 @@ module _ (f : ℕ → Seen) (u : Bool) where
         → ScanOutcome i (suc n) p b m (if grown (onMark mark (if x past (flooded x 0 Reset true)) (λ v. if (ltb v m) (on v) past)) past)
     one false mark x p b m past on eg em eu s t = pass p b m past (λ e. absurd (undone (sym e ∙ eg))) s
     one true Reset true p b m past on eg em eu s t = pass p b m past (λ e. idle em eu) s
-    one true Reset false p b m past on eg em eu s t = rw (← eu) (stopped eu)
+    one true Reset false p b m past on eg em eu s t = rw (← eu) (stopped {j = i} eu (omega arith) eg em)
     one true (Root v) x p b m past on eg em eu s t =
         ⊎-elim
         (λ e. rw (if-true (ltb v m) (on v) past e) (take p b m v (on v) (ltb-true v m e) eg em (t v)))
@@ -95,7 +95,7 @@ module _ (P : ℕ → Type 0) (N : ℕ) where
     scanned-good : (u : Bool) (i n p : ℕ) (b : Bool) (m : ℕ) (r : Flooded) → P p → m < N → ScanOutcome f u i n p b m r → Good P N r
     scanned-good u i n p b m r a l (passed h) = numbered u p m b a l
     scanned-good u i n p b m r a l (lowered {a = v} {j = j} k hi e s h) = numbered u (j + 1) v true (along j e) (marks j v e s)
-    scanned-good u i n p b m r a l (stopped e) = record { pointer = centre; reset = λ e. refl; marked = λ n e. absurd (reset-not n e) }
+    scanned-good u i n p b m r a l (stopped z hi o s) = record { pointer = centre; reset = λ e. refl; marked = λ n e. absurd (reset-not n e) }
 
     pub floods-good : (own : ℕ) (unrooted : Bool) (pointer : ℕ) (mark : Mark) (n : ℕ) → own < N → P pointer → ((m : ℕ) → mark ≡ Root m → m < N)
         → Good P N (floods own unrooted pointer mark (byPlace n f))

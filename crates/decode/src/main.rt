@@ -2,7 +2,7 @@
 // whole if the program ends with status 0 and says nothing on standard error. What stopped it is said there by one line, behind all that
 // is written of the result:
 //   refused N  by the documents' number; the header, if it was read, and the finished rounds are written
-//   spent      in the next round; the header and the finished rounds are written
+//   spent      in the next round; the header and the finished rounds are written. No round ends spent (crates/rests): it does not appear
 //   long       more than 65,536 bytes can be read; nothing is written
 //   unread     a read failed; nothing is written
 //   unwritten  a write failed, or the close; what is written may be cut at any byte

@@ -7,10 +7,10 @@ use mathlib.Core.Bool.{Bool, true, false}
 use mathlib.Core.List.{List}
 use borrow.Author.Tests.{ltb-true, lt-ltb, leb-true, le-leb}
 use lib.Dec.{ltb, leb}
-use lib.ListN.{length, replicate}
+use lib.ListN.{length}
 use Rattle.refusal.specs.Answer.{Answer, done, ended, refused, refusedAt, Code, plain, placed, codeOf, byCode, turned, unless}
 use Rattle.refusal.specs.Bytes.{Bytes}
-use Rattle.refusal.specs.Done.{went, took, passes, fails}
+use Rattle.refusal.specs.Done.{took, passes, fails}
 use Rattle.refusal.specs.Laws.{each}
 use Rattle.refusal.specs.Tests.{Passes}
 use Rattle.refusal.specs.declared.Refusal.{Refusal}
@@ -24,12 +24,11 @@ use Rattle.record.specs.Laws.{before-end}
 use Rattle.record.specs.Records.{header, headerAt, unlessEnded, roundAt, result}
 use Rattle.window.specs.Window.{maxNext}
 use Rattle.window.specs.Fresh.{freshWindow}
-use Rattle.window.specs.Calls.{roundCall, runCall}
 use Rattle.window.specs.Formed.{wellFormed}
 use Rattle.window.specs.declared.Window.{Window}
-use Rattle.decoding.specs.Decoding.{Line, turnedBack, spent, budget, Turn, Recorded, wrote, stopped, recordWritten, recorded, turnAt, lastTest, recordTests, recordAt, stop, after, roundsFrom, rounds, Decoded, nothingWritten, behind, decoded}
+use Rattle.decoding.specs.Decoding.{Line, turnedBack, spent, Turn, Recorded, wrote, stopped, recordWritten, recorded, turnAt, lastTest, recordTests, recordAt, stop, after, roundsFrom, rounds, Decoded, nothingWritten, behind, decoded}
 use Rattle.decoding.specs.LawsTests.{Hold, hold-pass, done-holds}
-use Rattle.decoding.specs.LawsTurn.{detectors, edges, onRan, onRound, onBytes, turn-steps}
+use Rattle.decoding.specs.LawsTurn.{detectors, turn-made}
 
 -- ONE RECORD
 
@@ -114,12 +113,7 @@ recorded-wider room more t n bytes v next l e = by-rest (t .rest) e
 module _ (T : Table) (s : List ℕ) (w : Window) (at : ℕ) where
   -- the round that a turn was made of ends where the turn does
   turn-next : (t : Turn) (next : ℕ) → turnAt T s w at ≡ done t next → (bytes : List ℕ) × (roundAt s (detectors w) at ≡ done bytes next)
-  turn-next t next e =
-      let a = went (roundAt s (detectors w) at) (onBytes T w) t next (sym (turn-steps T w s at) ∙ e) in
-      let b = went (roundCall T w (a .value) (replicate {A = ℕ} (edges T w) 0) (replicate {A = ℕ} (detectors w) 0)) (onRound T w (a .next)) t next (a .after) in
-      let d = went (runCall T (b .value .window) budget) (onRan T w (b .value) (a .next)) t next (b .after) in
-      let k : a .next ≡ next = cc (d .after) in
-      (a .value, a .before ∙ ap (λ (m : ℕ). done (a .value) m) k)
+  turn-next t next e = let m = turn-made T s w at t next e in (m .sheet, m .reads)
 
 -- what a record that is written tells: it ends behind its round, and it had room
 pub record Forward (s : List ℕ) (size at to next : ℕ) (bytes : List ℕ) : Type 0 where

@@ -1,12 +1,12 @@
 -- A round of the stream received and run: no call refuses it, and what leaves can be written. Assumes nothing.
 use Prim.Native.Nat.{ℕ, _-_, _<_}
-use mathlib.Core.Path.{_≡_, refl, _∙_, ap}
+use mathlib.Core.Path.{_≡_, refl, sym, _∙_, ap}
 use mathlib.Core.Bool.{Bool, true, false, not}
 use mathlib.Core.List.{List}
 use borrow.Author.Tests.{lt-ltb, eq-eqb}
 use lib.ListN.{length, getD, replicate, length-replicate}
 use Rattle.refusal.specs.Answer.{Answer, done, andThen}
-use Rattle.refusal.specs.Done.{goes-on}
+use Rattle.refusal.specs.Done.{goes-on, went}
 use Rattle.list.specs.Sheet.{areBits}
 use Rattle.layers.specs.Layers.{edgeOf, layerEdges}
 use Rattle.shape.specs.Nodes.{indexOf}
@@ -117,3 +117,29 @@ module _ (T : Table) (w : Window) where
     pub turn-done : (s : List ℕ) (at behind : ℕ) → roundAt s (detectors w) at ≡ done bytes behind → turnAt T s w at ≡ done (turnOf T w bytes) behind
     turn-done s at behind e =
         turn-steps s at ∙ goes-on onBytes e ∙ goes-on (onRound behind) round-accepted ∙ goes-on (onRan (receiving T w bytes) behind) round-run
+
+-- WHAT A TURN WAS MADE OF: a round read, received and run
+pub record TurnMade (T : Table) (s : List ℕ) (w : Window) (at : ℕ) (t : Turn) (next : ℕ) : Type 0 where
+  pub sheet : List ℕ
+  pub round : Round
+  pub run : Ran
+  pub reads : roundAt s (detectors w) at ≡ done sheet next
+  pub receives : (z : ℕ) × (roundCall T w sheet (replicate {A = ℕ} (edges T w) 0) (replicate {A = ℕ} (detectors w) 0) ≡ done round z)
+  pub runs : (z : ℕ) × (runCall T (round .window) budget ≡ done run z)
+  pub gives : record { window = run .window; result = record { edges = round .edges; escapes = round .escapes; steps = run .count }; rest = run .rest } ≡ t
+
+pub turn-made : (T : Table) (s : List ℕ) (w : Window) (at : ℕ) (t : Turn) (next : ℕ) → turnAt T s w at ≡ done t next → TurnMade T s w at t next
+turn-made T s w at t next e =
+    let a = went (roundAt s (detectors w) at) (onBytes T w) t next (sym (turn-steps T w s at) ∙ e) in
+    let b = went (roundCall T w (a .value) (replicate {A = ℕ} (edges T w) 0) (replicate {A = ℕ} (detectors w) 0)) (onRound T w (a .next)) t next (a .after) in
+    let d = went (runCall T (b .value .window) budget) (onRan T w (b .value) (a .next)) t next (b .after) in
+    let k : a .next ≡ next = cc (d .after) in
+    record {
+      sheet = a .value;
+      round = b .value;
+      run = d .value;
+      reads = a .before ∙ ap (λ (i : ℕ). done (a .value) i) k;
+      receives = (b .next, b .before);
+      runs = (d .next, d .before);
+      gives = cc (d .after);
+    }

@@ -1,5 +1,5 @@
 -- How long a record can be: any fits an empty buffer of the program. Assumes nothing.
-use Prim.Native.Nat.{ℕ, zero, suc, _+_, _*_, _/_, _≤_, _<_}
+use Prim.Native.Nat.{ℕ, _+_, _*_, _/_, _≤_, _<_}
 use native.Mathlib.Omega.{arith}
 use mathlib.Core.Path.{_≡_, refl, _∙_, ap}
 use mathlib.Core.Bool.{Bool, true, false}
@@ -12,20 +12,15 @@ use Rattle.number.specs.Number.{written}
 use Rattle.number.specs.Laws.{written-one, written-more, length-written}
 use Rattle.list.specs.Sheet.{ones, skips, listed}
 use Rattle.list.specs.Laws.{listed-is, length-skips, ones-nil, ones-set, ones-unset}
-use Rattle.shape.specs.Choice.{if, order}
+use Rattle.shape.specs.Choice.{order}
 use Rattle.shape.specs.LawsSizes.{detectors-le, layer-le}
 use Rattle.shape.specs.Ranges.{ranged}
 use Rattle.shape.specs.Sizes.{inRange, maxDetectors, maxLayerEdges}
-use Rattle.steps.specs.Steps.{Table}
 use Rattle.steps.specs.Models.{ofModel}
 use Rattle.layers.specs.Document.{count-model}
 use Rattle.record.specs.Records.{result}
-use Rattle.window.specs.Window.{isRest, isToGrow}
 use Rattle.window.specs.Round.{rounded}
-use Rattle.window.specs.Grow.{grown}
-use Rattle.window.specs.Merging.{merged}
-use Rattle.window.specs.Run.{stepsFrom, ran}
-use Rattle.window.specs.LawsRun.{steps-rest, steps-on, none-left}
+use Rattle.window.specs.LawsRun.{ran-count}
 use Rattle.window.specs.declared.Window.{Window}
 use Rattle.decoding.specs.Decoding.{budget, turnOf}
 use Rattle.decoding.specs.LawsTurn.{committed-long, escaped-long}
@@ -59,15 +54,6 @@ count-written n l =
     (order (n / 128) 128))
     (order n 128)
 
--- no more steps are counted than the budget has
-pub count-most : (T : Table) (n made : ℕ) (w : Window) → stepsFrom T n made w .count ≤ made + n
-count-most T zero made w = rw (none-left T made w) (omega arith)
-count-most T (suc n) made w = go (isRest (merged T w .stage)) refl (count-most T n (made + 1) (merged T w))
-  where
-    go : (b : Bool) → isRest (merged T w .stage) ≡ b → stepsFrom T n (made + 1) (merged T w) .count ≤ made + 1 + n → stepsFrom T (suc n) made w .count ≤ made + suc n
-    go true e l = rw (steps-rest T made w n e) (omega arith)
-    go false e l = rw (steps-on T made w n e) (omega arith)
-
 -- the bytes of a record at most: both lists of the largest shape, and the count of steps
 abbrev pub maxRecord : ℕ
 maxRecord = 2 * maxLayerEdges + 1 + (2 * maxDetectors + 1) + 3
@@ -77,7 +63,7 @@ pub record-fits : maxRecord ≤ 65536
 record-fits = omega arith
 
 pub turn-most : (m : ℕ) (w : Window) (bytes : List ℕ) → inRange (w .shape .height) (w .shape .distance) ≡ true → length (result (turnOf (ofModel m) w bytes .result)) ≤ maxRecord
-unfolding ran result
+unfolding result
 turn-most m w bytes e =
     let T = ofModel m in
     let h = w .shape .height in
@@ -85,7 +71,7 @@ turn-most m w bytes e =
     let r = turnOf T w bytes .result in
     let a = listed-most (r .edges) in
     let b = listed-most (r .escapes) in
-    let c = count-written (r .steps) (count-most T budget 0 (if (isToGrow (rounded T w bytes .stage)) (grown T (rounded T w bytes)) (rounded T w bytes))) in
+    let c = count-written (r .steps) (ran-count T budget (rounded T w bytes)) in
     let i = layer-le m h d (ranged h d e) in
     let j = detectors-le h d (ranged h d e) in
     let l = committed-long T w ∙ count-model m h d in

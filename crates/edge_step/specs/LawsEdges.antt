@@ -11,7 +11,8 @@ use lib.ListN.{getD, length}
 use Rattle.shape.specs.Choice.{if, if-true, if-false, whether, order}
 use Rattle.window.specs.Lists.{xor}
 use Rattle.flat.specs.Codes.{noEdge, edgeCode, growthOf, correctionOf}
-use Rattle.flat.specs.LawsCodes.{bit-most, edge-growth, edge-correction}
+use Rattle.window.specs.LawsLists.{bit-most}
+use Rattle.flat.specs.LawsCodes.{edge-growth, edge-correction}
 use Rattle.flat.specs.Entries.{State, stateOf, plane, planes, cell, within, overBy}
 use Rattle.flat.specs.Laid.{laid, length-laid, laid-seen, laid-stays}
 use Rattle.flat.specs.Plan.{Plan, planOf}

@@ -1,6 +1,6 @@
 // Streams and decoding for programs in C: numbers, byte slices and lent numbers only. Each call ensures one equation, between a record of what
 // its caller sees, by the header's names, and what `specs/Calls.antt` makes of the arguments. `crates/reply` has the status and the place,
-// `crates/named` the shape that a height, a distance and a model name, with its sizes.
+// `crates/named` the shape that a height, a distance and a model name, with its sizes, and `crates/bound` the bound on merging steps.
 //
 // A reader or writer returns 0 where it is done, 255 where no bytes are left, and else the refusal's number; unless it returns 0, it leaves
 // every buffer, value and lent offset as it was. `place` takes the offset behind the record, or that of the number's first byte with 7, 8 and 9,
@@ -10,6 +10,7 @@ ghost use mathlib.Core.Path.{_≡_};
 ghost use Rattle.reply.specs.Reply.{reply, valueOut, headerOut, scanOut};
 ghost use Rattle.exports.specs.Calls.{numberRead, bufferOut, numberWritten, listRead, listWritten, taken, headerRead, headerTaken, headerWritten, roundOut, roundRead, roundTaken, roundWritten, resultOut, resultRead, resultTaken, resultWritten, inputScanned, resultsScanned, decodeOut, streamDecoded};
 ghost use Rattle.named.specs.Named.{nodesBy, detectorsBy, edgesBy};
+ghost use Rattle.bound.specs.Bound.{stepBound};
 
 #[no_mangle]
 pub extern "C" fn baizeridge_read_number(
@@ -282,9 +283,17 @@ pub extern "C" fn baizeridge_layer_edges(height: u32, distance: u32, model: u32)
     named::layer_edges(height, distance, model)
 }
 
+// The most merging steps of a merging stage in a window of the shape; 0 where it is refused.
+#[no_mangle]
+pub extern "C" fn baizeridge_step_bound(height: u32, distance: u32, model: u32) -> usize
+    ensures { λ r. ⌜ r ≡ stepBound height distance model ⌝ }
+{
+    bound::step_bound(height, distance, model)
+}
+
 // Decodes a whole input stream. The result stream goes to the front of out, and count takes its length, however it ends: the header's bytes, if
 // it was read and had room, and those of the finished rounds; the bytes behind them stay as they were. Returns 0 where the input's end is reached,
-// 254 where a round is spent, else the refusal's number; place takes the offset that a refusal carries.
+// 254 where a round ends spent, and none does (crates/rests), else the refusal's number; place takes the offset that a refusal carries.
 #[no_mangle]
 pub extern "C" fn baizeridge_decode(
     src: &[u8],

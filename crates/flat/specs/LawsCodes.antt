@@ -1,5 +1,5 @@
 -- What was written as a number is read back. Assumes nothing.
-use Prim.Native.Nat.{ℕ, _/_, _%_, _<_, _≤_}
+use Prim.Native.Nat.{ℕ, _/_, _%_, _<_}
 use native.Mathlib.Omega.{arith}
 use mathlib.Core.Path.{_≡_, refl}
 use mathlib.Core.Bool.{Bool, true, false}
@@ -8,12 +8,9 @@ use lib.Dec.{eqb}
 use Rattle.window.specs.Lists.{bit}
 use Rattle.window.specs.declared.Mark.{Mark}
 use Rattle.window.specs.declared.Mark.the-variants.{Reset, Root}
+use Rattle.window.specs.LawsLists.{bit-most}
 use Rattle.window.specs.declared.Node.{Node}
 use Rattle.flat.specs.Codes.{nodeCode, activeOf, defectOf, unrootedOf, pointerOf, resetCode, markOf, markCode, nodeOf, edgeCode, growthOf, correctionOf}
-
-pub bit-most : (b : Bool) → bit b ≤ 1
-bit-most true = omega arith
-bit-most false = omega arith
 
 pub bit-is : (b : Bool) → eqb (bit b) 1 ≡ b
 bit-is true = refl

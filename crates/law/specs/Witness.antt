@@ -29,7 +29,7 @@ use Rattle.window.specs.Window.{size, at}
 use Rattle.window.specs.declared.Stage.the-variants.{Rest}
 use Rattle.window.specs.declared.Window.{Window}
 use Rattle.law.specs.Law as law
-use Rattle.law.specs.Law.{Call, Receipt, Played, Spot, received, committed, pending, standing, escaped, ending, play, start, receipt, sheets, NothingLeft, AbsentEmpty, Rested}
+use Rattle.law.specs.Law.{Call, Receipt, Played, Spot, received, committed, pending, standing, escaped, ending, play, start, receipt, noReceipt, sheets, NothingLeft, AbsentEmpty, Rested}
 
 -- the five terms of the law at a detector
 pub record Terms : Type 0 where
@@ -121,26 +121,21 @@ zero-one : (i : ℕ) → getD {A = ℕ} (0 ∷ []) i 0 ≡ 0
 zero-one zero = refl
 zero-one (suc i) = refl
 
-nothing-with : (n : ℕ) → receipt (tie 3) n .edges ≡ 0 ∷ 0 ∷ 0 ∷ [] → receipt (tie 3) n .escapes ≡ 0 ∷ [] → NothingLeft (receipt (tie 3) n)
-nothing-with n e f i = (rw e (zeros i), rw f (zero-one i))
+nothing-with : (n byte : ℕ) → receipt (tie 3) n ≡ empty byte → NothingLeft (receipt (tie 3) n)
+nothing-with n byte e i = rw e (zeros i, zero-one i)
 
 record Empties : Type 0 where
-  edges-0 : receipt (tie 3) 0 .edges ≡ 0 ∷ 0 ∷ 0 ∷ []
-  escapes-0 : receipt (tie 3) 0 .escapes ≡ 0 ∷ []
-  edges-1 : receipt (tie 3) 1 .edges ≡ 0 ∷ 0 ∷ 0 ∷ []
-  escapes-1 : receipt (tie 3) 1 .escapes ≡ 0 ∷ []
-  edges-2 : receipt (tie 3) 2 .edges ≡ 0 ∷ 0 ∷ 0 ∷ []
-  escapes-2 : receipt (tie 3) 2 .escapes ≡ 0 ∷ []
+  receipts : tie 3 .receipts ≡ empty 1 ∷ empty 0 ∷ empty 0 ∷ record { defects = 0 ∷ []; edges = 1 ∷ 0 ∷ 0 ∷ []; escapes = 0 ∷ [] } ∷ []
   three : sheets (tie 3) ≡ 3
 
 absent-are : Empties
 unfolding opened
-absent-are = record { edges-0 = refl; escapes-0 = refl; edges-1 = refl; escapes-1 = refl; edges-2 = refl; escapes-2 = refl; three = refl }
+absent-are = record { receipts = refl; three = refl }
 
 pub absent-empty : AbsentEmpty (tie 3)
-absent-empty zero l = nothing-with 0 (absent-are .edges-0) (absent-are .escapes-0)
-absent-empty (suc zero) l = nothing-with 1 (absent-are .edges-1) (absent-are .escapes-1)
-absent-empty (suc (suc zero)) l = nothing-with 2 (absent-are .edges-2) (absent-are .escapes-2)
+absent-empty zero l = nothing-with 0 1 (ap (λ (r : List Receipt). getD r 0 noReceipt) (absent-are .receipts))
+absent-empty (suc zero) l = nothing-with 1 0 (ap (λ (r : List Receipt). getD r 1 noReceipt) (absent-are .receipts))
+absent-empty (suc (suc zero)) l = nothing-with 2 0 (ap (λ (r : List Receipt). getD r 2 noReceipt) (absent-are .receipts))
 absent-empty (suc (suc (suc n))) l = absurd (omega (arith, absent-are .three))
 
 abbrev held : Window

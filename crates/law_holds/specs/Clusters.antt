@@ -30,7 +30,7 @@ use Rattle.law_holds.specs.ClustersRest.{merging-calm}
 use Rattle.law_holds.specs.Rested.{calm-rested}
 
 -- by the stage
-abbrev Settled : Table → Window → Stage → Type 0
+abbrev pub Settled : Table → Window → Stage → Type 0
 Settled T w Rest = Calm (graph T w) (view w)
 Settled T w ToGrow = Fallen T w
 Settled T w Merging = Inv (graph T w) (view w)
@@ -39,7 +39,7 @@ abbrev pub Clustered : Table → Played → Type 0
 Clustered T p = Settled T (p .window) (p .window .stage)
 
 module _ (T : Table) (w : Window) where
-  calm : (s : Stage) → isRest s ≡ true → Settled T w s → Calm (graph T w) (view w)
+  pub calm : (s : Stage) → isRest s ≡ true → Settled T w s → Calm (graph T w) (view w)
   calm Rest e x = x
   calm ToGrow e x = absurd (undone (sym e))
   calm Merging e x = absurd (undone (sym e))
@@ -49,7 +49,7 @@ module _ (T : Table) (w : Window) where
   fallen ToGrow e x = x
   fallen Merging e x = absurd (undone (sym e))
 
-  held : (s : Stage) → isMerging s ≡ true → Settled T w s → Inv (graph T w) (view w)
+  pub held : (s : Stage) → isMerging s ≡ true → Settled T w s → Inv (graph T w) (view w)
   held Rest e x = absurd (undone (sym e))
   held ToGrow e x = absurd (undone (sym e))
   held Merging e x = x

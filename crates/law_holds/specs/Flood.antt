@@ -24,7 +24,7 @@ use Rattle.law_holds.specs.Turn.{Clear, Turn, Turns, woke, cut, stayed, 
 -- WHAT A NODE SEES is what its open edges lead to
 
 module _ (T : Table) (w : Window) where
-  seen-mark : (v j : ℕ) → graph T w .opn v (j + 1) ≡ true → seen T w v j .mark ≡ view w .mark (graph T w .nb v (j + 1))
+  pub seen-mark : (v j : ℕ) → graph T w .opn v (j + 1) ≡ true → seen T w v j .mark ≡ view w .mark (graph T w .nb v (j + 1))
   seen-mark v j o = ap (λ (s : Seen). s .mark) (seen-edge T w v j (halves _ _ o .0))
 
   abbrev pub busy : ℕ → Bool
@@ -60,7 +60,20 @@ module _ (T : Table) (w : Window) where
           unrooted = refl;
           busy = t refl;
         })
-    ended m e r (stopped u) b t = cut (record { m = m; was = e; rooted = u; mark = refl; pointer = refl; unrooted = u; busy = t refl })
+    ended m e r (stopped {j = j} u hi o s) b t =
+        let o' = sym (seen-grown T w v j) ∙ o in
+        cut (record {
+          m = m;
+          was = e;
+          rooted = u;
+          way = j + 1;
+          opn = o';
+          sees = sym (seen-mark v j o') ∙ s;
+          mark = refl;
+          pointer = refl;
+          unrooted = u;
+          busy = t refl;
+        })
 
     abbrev flood : Mark → Flooded
     flood x = floods (graph T w .num v) (at w v .unrooted) (at w v .pointer) x (byPlace (length (T .steps)) (seen T w v))

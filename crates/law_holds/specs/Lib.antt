@@ -15,6 +15,7 @@ pub mod Turn
 pub mod Flood
 pub mod ClustersMerging
 pub mod Quiet
+pub mod Syncing
 pub mod ClustersRest
 pub mod Rested
 pub mod Clusters

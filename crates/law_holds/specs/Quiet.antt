@@ -2,17 +2,17 @@
 use Prim.Native.Nat.{ℕ, _≤_, _<_}
 use native.Mathlib.Omega.{arith}
 use mathlib.Core.Path.{_≡_, refl, sym, _∙_, ap}
-use mathlib.Core.Bool.{true, _&&_}
+use mathlib.Core.Bool.{true}
 use Rattle.window.specs.declared.Mark.the-variants.{Root}
-use Rattle.law_holds.specs.Graph.{Graph, Laws, State, Chain, here, via, Connected, same, over, Inv, Calm}
+use Rattle.law_holds.specs.Graph.{Graph, Laws, State, hot, Chain, here, via, Connected, same, over, Inv, Calm}
 
 -- node v sees no lower mark and sends no defect, and its activity is what its pointer says
 pub record Quiet (g : Graph) (s : State) (v : ℕ) : Type 0 where
   pub m : ℕ
   pub mark : s .mark v ≡ Root m
   pub least : (p a : ℕ) → g .opn v p ≡ true → s .mark (g .nb v p) ≡ Root a → m ≤ a
-  pub defect : (g .det v && s .defect v) ≡ true → s .pointer v ≡ 0
-  pub centre : s .pointer v ≡ 0 → s .active v ≡ (g .det v && s .defect v)
+  pub defect : hot g s v ≡ true → s .pointer v ≡ 0
+  pub centre : s .pointer v ≡ 0 → s .active v ≡ hot g s v
   pub along : g .opn v (s .pointer v) ≡ true → s .active v ≡ s .active (g .nb v (s .pointer v))
 
 module _ (g : Graph) (L : Laws g) (s : State) (I : Inv g s) (Q : (v : ℕ) → v < g .n → Quiet g s v) where
@@ -35,7 +35,7 @@ module _ (g : Graph) (L : Laws g) (s : State) (I : Inv g s) (Q : (v : ℕ) → v
   record Ended (v r : ℕ) : Type 0 where
     joined : Connected g v r
     centre : s .pointer r ≡ 0
-    active : s .active v ≡ (g .det r && s .defect r)
+    active : s .active v ≡ hot g s r
 
   ended : {v r : ℕ} → Chain g s v r → v < g .n → Ended v r
   ended (here {v = v} e) hv = record { joined = same; centre = e; active = Q v hv .centre e }

@@ -3,8 +3,7 @@ use Prim.Native.Nat.{ℕ, _+_}
 use native.Mathlib.Omega.{arith}
 use mathlib.Core.Path.{_≡_, refl, sym, subst}
 use mathlib.Core.List.{List}
-use mathlib.Core.Bool.{true}
-use Rattle.shape.specs.Sizes.{inRange, modelOk}
+use Rattle.shape.specs.Sizes.{IsShape}
 use Rattle.steps.specs.Steps.{Table, base}
 use Rattle.shape.specs.declared.Shape.{Shape}
 use Rattle.window.specs.Fresh.{freshWindow}
@@ -69,12 +68,12 @@ unfolding rounded grown merged measuring
 sheet-kept T = record { round = λ p defects k st bits i. i; replace = λ p bytes i. refl; grow = λ p k st i. i; merging = λ p k st i. i }
 
 module _ (T : Table) (S : Suited T) where
-  pub law : (sh : Shape) → inRange (sh .height) (sh .distance) ≡ true → modelOk (sh .model) ≡ true → (calls : List Call) → Law T (freshWindow T sh) (play T (start (freshWindow T sh)) calls)
+  pub law : (sh : Shape) → IsShape sh → (calls : List Call) → Law T (freshWindow T sh) (play T (start (freshWindow T sh)) calls)
   unfolding freshWindow
-  law sh e m calls =
+  law sh range calls =
       let p = start (freshWindow T sh) in
-      let k = kept-fresh T sh e m in
-      let a = playing T S (Conserved T) (conserved T S) calls p k (conserved-fresh T sh e) in
+      let k = kept-fresh T sh range in
+      let a = playing T S (Conserved T) (conserved T S) calls p k (conserved-fresh T sh (range .sizes)) in
       let b = playing T S (Clustered T) (clustered T S) calls p k (clustered-fresh T sh) in
       let c = playing T S (Counted sh) (counted T S sh) calls p k (counted-fresh T sh) in
       let s = playing T S Sheet (sheet-kept T) calls p k (sheet-fresh T sh) in
@@ -90,7 +89,7 @@ module _ (T : Table) (S : Suited T) where
   pub holds : Demand3 T
   holds h d m w n e calls =
       let x = started T h d m w n e in
-      subst (λ (u : Window). Law T u (play T (start u) calls)) (x .value) (law (record { height = h; distance = d; model = m }) (x .ranged) (x .modelled) calls)
+      subst (λ (u : Window). Law T u (play T (start u) calls)) (x .value) (law (record { height = h; distance = d; model = m }) (x .range) calls)
 
 -- every table of distinct non-zero steps, at most one sheet up or down, in which each has its opposite
 pub demand3 : (ms : List Move) → Steps ms → Demand3 (tableOf ms)

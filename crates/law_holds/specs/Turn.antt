@@ -1,11 +1,19 @@
 -- What a merging step does to the mark and the pointer of one node: four cases, each with its equations. Assumes nothing.
 use Prim.Native.Nat.{ℕ, _≤_, _<_}
-use mathlib.Core.Path.{_≡_}
+use native.Mathlib.Omega.{arith}
+use mathlib.Core.Path.{_≡_, sym, _∙_}
 use mathlib.Core.Bool.{Bool, true, false}
+use Rattle.window.specs.declared.Mark.{Mark}
 use Rattle.window.specs.declared.Mark.the-variants.{Reset, Root}
 use Rattle.window.specs.declared.Flooded.{Flooded}
-use Rattle.closure.specs.Scan.{Above}
+use Rattle.closure.specs.States.{reset-not, same-number}
+use Rattle.closure.specs.Scan.{Above, idle, higher}
 use Rattle.law_holds.specs.Graph.{Graph, State}
+
+-- a mark that is a number, where it changes nothing, is no lower
+pub above-le : (u : Bool) (m a : ℕ) (mark : Mark) → mark ≡ Root a → Above u m mark → m ≤ a
+above-le u m a mark e (idle f i) = absurd (reset-not a (sym f ∙ e))
+above-le u m a mark e (higher {a = b} f i) = let q = same-number b a (sym f ∙ e) in omega arith
 
 module _ (g : Graph) (s : State) where
   -- so it is over all open edges of v
@@ -22,11 +30,14 @@ module _ (g : Graph) (s : State) where
       pub unrooted : f .unrooted ≡ true
       pub busy : f .busy ≡ true
 
-    -- it is reset
+    -- it is reset beside a reset node
     pub record Cut : Type 0 where
       pub m : ℕ
       pub was : s .mark v ≡ Root m
       pub rooted : s .unrooted v ≡ false
+      pub way : ℕ
+      pub opn : g .opn v way ≡ true
+      pub sees : s .mark (g .nb v way) ≡ Reset
       pub mark : f .mark ≡ Reset
       pub pointer : f .pointer ≡ 0
       pub unrooted : f .unrooted ≡ false

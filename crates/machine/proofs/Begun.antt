@@ -29,7 +29,8 @@ use Rattle.shows.specs.Grown.{Grows, grown-shows, riding-grown}
 use Rattle.shows.specs.Tests.{riding-by, aloft-by}
 use Rattle.shows.specs.Pass.{Going}
 use Rattle.shows.specs.Turn.{live-all, going-all}
-use Rattle.shows.specs.Run.{ran-grown, ran-merging, Over}
+use Rattle.window.specs.LawsRun.{ran-grown, ran-merging}
+use Rattle.shows.specs.Run.{Over}
 use Rattle.plan.specs.Table.{sizesOf}
 use Rattle.plan.specs.Filled.{Filled}
 use Rattle.unpack.specs.Rides.{ridesIn}

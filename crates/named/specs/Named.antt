@@ -1,9 +1,8 @@
 -- The shape that a height, a distance and a model name, and what is made of it. Assumes nothing.
 use Prim.Native.Nat.{ℕ}
 use lib.Dec.{ltb}
-use Rattle.refusal.specs.Answer.{valueOr}
 use Rattle.shape.specs.Choice.{if}
-use Rattle.shape.specs.Sizes.{shapeOf, nodesOf, detectorsOf, layerEdgesOf}
+use Rattle.shape.specs.Sizes.{sizeBy, nodesOf, detectorsOf, layerEdgesOf}
 use Rattle.shape.specs.declared.Shape.{Shape}
 
 -- in range or not
@@ -15,10 +14,7 @@ shapeBy height distance model = record { height = height; distance = distance; m
 abbrev pub clip : ℕ → ℕ
 clip n = if (ltb n 256) n 255
 
--- A SIZE of the shape, 0 where it is refused
-
-abbrev pub sizeBy : (Shape → ℕ) → ℕ → ℕ → ℕ → ℕ
-sizeBy of height distance model = valueOr (shapeOf height distance model) of 0
+-- SIZES of the shape, 0 where it is refused
 
 abbrev pub nodesBy : ℕ → ℕ → ℕ → ℕ
 nodesBy height distance model = sizeBy (λ (sh : Shape). nodesOf (sh .height) (sh .distance)) height distance model

@@ -15,12 +15,12 @@ use Rattle.number.specs.declared.Wrote.the-variants as wroteTo
 use Rattle.list.specs.Sheet.{areBits}
 use Rattle.shape.specs.Choice.{if-true, if-false}
 use Rattle.shape.specs.Ranges.{halves}
-use Rattle.shape.specs.Sizes.{heightOk, distanceOk, layerEdgesOf}
+use Rattle.shape.specs.Sizes.{IsShape, heightOk, distanceOk, layerEdgesOf}
 use Rattle.shape.specs.declared.Shape.{Shape}
 use Rattle.steps.specs.Models.{ofModel}
 use Rattle.layers.specs.Document.{count-model}
 use Rattle.record.specs.Calls.{writeResult, asResult, placeTests, edgesTest, escapesTest}
-use Rattle.record.specs.Records.{IsShape, result}
+use Rattle.record.specs.Records.{result}
 use Rattle.window.specs.Round.{committedEdges, escapedDefects}
 use Rattle.window.specs.declared.Ran.{Ran}
 use Rattle.window.specs.declared.Window.{Window}

@@ -1,6 +1,5 @@
 -- What stands in the streams: the header, a round of the input, and a round of the result. Assumes nothing.
 use Prim.Native.Nat.{ℕ}
-use mathlib.Core.Path.{_≡_}
 use mathlib.Core.Bool.{true, false}
 use mathlib.Core.List.{List, _++_}
 use lib.Dec.{ltb}
@@ -8,7 +7,7 @@ use lib.ListN.{length}
 use Rattle.refusal.specs.Answer.{Answer, done, ended, refused, andThen}
 use Rattle.number.specs.Number.{written, numberAt}
 use Rattle.list.specs.Sheet.{listed, listAt}
-use Rattle.shape.specs.Sizes.{heightOk, distanceOk, modelOk, inRange}
+use Rattle.shape.specs.Sizes.{heightOk, distanceOk, modelOk}
 use Rattle.shape.specs.declared.Shape.{Shape}
 
 -- THE HEADER: height, distance, noise model
@@ -28,11 +27,6 @@ onHeight s h next = elim (heightOk h) [ true ↦ andThen (numberAt s next) (onDi
 
 unfoldable pub headerAt : List ℕ → ℕ → Answer Shape
 headerAt s at = andThen (numberAt s at) (onHeight s)
-
--- a shape that a header can name
-pub record IsShape (sh : Shape) : Type 0 where
-  pub sizes : inRange (sh .height) (sh .distance) ≡ true
-  pub model : modelOk (sh .model) ≡ true
 
 -- no bytes left is an end; anything else is read
 abbrev pub unlessEnded : {A : Type 0} → List ℕ → ℕ → Answer A → Answer A

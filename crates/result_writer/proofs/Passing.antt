@@ -13,9 +13,9 @@ use Rattle.list.specs.Sheet.{areBits}
 use Rattle.list_writer.specs.Gaps.{top}
 use Rattle.list_writer.specs.Laws.{top-zeros, bits-told, listed-zero}
 use Rattle.shape.specs.Ranges.{halves}
-use Rattle.shape.specs.Sizes.{heightOk, distanceOk, detectorsOf, layerEdgesOf}
+use Rattle.shape.specs.Sizes.{IsShape, heightOk, distanceOk, detectorsOf, layerEdgesOf}
 use Rattle.shape.specs.declared.Shape.{Shape}
-use Rattle.record.specs.Records.{IsShape, result}
+use Rattle.record.specs.Records.{result}
 use Rattle.record.specs.Calls.{placeTests, edgesTest, escapesTest, writeResult, asResult}
 use Rattle.record.specs.Laws.{result-is}
 

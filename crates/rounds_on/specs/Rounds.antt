@@ -136,7 +136,6 @@ module _ (sh : Shape) (z : Sizes) (table : List ℕ) where
           record {
             ready = record {
               range = m .range;
-              model = m .model;
               sizes = m .sizes;
               filled = m .filled;
               long = R .long;

@@ -9,10 +9,10 @@ use Rattle.refusal.specs.Tests.{Passes}
 use Rattle.refusal.specs.Writing.{Buffered, buffered}
 use Rattle.list.specs.Sheet.{readInto}
 use Rattle.shape.specs.Ranges.{halves}
-use Rattle.shape.specs.Sizes.{heightOk, distanceOk}
+use Rattle.shape.specs.Sizes.{IsShape, heightOk, distanceOk}
 use Rattle.shape.specs.declared.Shape.{Shape}
 use Rattle.record.specs.Calls.{roundAnswer, resultAnswer, placeTests, defectsTest, edgesTest, escapesTest, readRound, readResult, ResultBuffered, resultBuffered, readIntoBoth, stepsOf}
-use Rattle.record.specs.Records.{IsShape, Result}
+use Rattle.record.specs.Records.{Result}
 use Rattle.record.specs.declared.ResultRead.{ResultRead}
 use Rattle.record.specs.declared.RoundRead.{RoundRead}
 use Rattle.trip.specs.Fits.{detectorsIn, edgesIn}

@@ -6,12 +6,13 @@ use mathlib.Core.Bool.{true, false}
 use mathlib.Core.List.{List}
 use lib.ListN.{length}
 use borrow.Author.Tests.{ltb-true, ltb-false}
+use Rattle.shape.specs.Sizes.{IsShape}
 use Rattle.refusal.specs.Answer.{done, ended, turned, nextOr}
 use Rattle.refusal.specs.Bytes.{Bytes}
 use Rattle.refusal.specs.Laws.{turned-next}
 use Rattle.refusal.specs.declared.Refusal.{Refusal}
 use Rattle.shape.specs.declared.Shape.{Shape}
-use Rattle.record.specs.Records.{IsShape, headerAt}
+use Rattle.record.specs.Records.{headerAt}
 use Rattle.record.specs.Calls.{headerAnswer}
 use Rattle.record.specs.declared.HeaderRead.{HeaderRead}
 use Rattle.record.specs.declared.HeaderRead.the-variants as headerRead

@@ -17,12 +17,12 @@ use Rattle.number.specs.Number.{writtenBuffered}
 use Rattle.number.specs.declared.Wrote.{Wrote}
 use Rattle.number.specs.declared.Wrote.the-variants as wroteTo
 use Rattle.shape.specs.Ranges.{halves}
-use Rattle.shape.specs.Sizes.{heightOk, distanceOk}
+use Rattle.shape.specs.Sizes.{IsShape, heightOk, distanceOk}
 use Rattle.steps.specs.Models.{ofModel}
 use Rattle.shape.specs.declared.Shape.{Shape}
 use Rattle.record.specs.Calls.{headerAnswer, placeTests, writeHeader}
 use Rattle.trip.specs.Header.{header-writes}
-use Rattle.record.specs.Records.{IsShape, header, headerAt}
+use Rattle.record.specs.Records.{header, headerAt}
 use Rattle.record.specs.declared.HeaderRead.{HeaderRead}
 use Rattle.record.specs.declared.HeaderRead.the-variants as headerRead
 use Rattle.window.specs.Fresh.{freshWindow}

@@ -17,7 +17,7 @@ use window::Stage;
 use window::Window;
 ghost use mathlib.Core.Path.{_≡_};
 ghost use mathlib.Core.Bool.{true};
-ghost use Rattle.record.specs.Records.{IsShape};
+ghost use Rattle.shape.specs.Sizes.{IsShape};
 ghost use Rattle.steps.specs.Models.{ofModel};
 ghost use Rattle.window.specs.Formed.{wellFormed};
 ghost use Rattle.window.specs.Fresh.{freshWindow};

@@ -35,7 +35,7 @@ module _ (Good : ℕ → Type 0) (centre : Good 0) (f : ℕ → Seen) (along : (
   scanned-pointer : (u : Bool) (n p m : ℕ) (r : Flooded) → Good p → ScanOutcome f u 0 n p false m r → Good (r .pointer)
   scanned-pointer u n p m r a (passed h) = a
   scanned-pointer u n p m r a (lowered {j = j} l x e s h) = along j e
-  scanned-pointer u n p m r a (stopped e) = centre
+  scanned-pointer u n p m r a (stopped z hi o s) = centre
 
   flooded-pointer : (own : ℕ) (u : Bool) (p : ℕ) (mark : Mark) (n : ℕ) → Good p → Good (floods own u p mark (byPlace n f) .pointer)
   unfolding floods byPlace

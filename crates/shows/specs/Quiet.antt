@@ -60,7 +60,7 @@ module _ (f : ℕ → Seen) (K : ℕ) where
   ended : (u : Bool) (p m : ℕ) (r : Flooded) → ScanOutcome f u 0 K p false m r → r .busy ≡ false → r ≡ flooded u p (Root m) false
   ended u p m r (passed h) e = refl
   ended u p m r (lowered l j o s h) e = absurd (undone e)
-  ended u p m r (stopped z) e = absurd (undone e)
+  ended u p m r (stopped z hi o s) e = absurd (undone e)
 
   calm-flood : (own : ℕ) (u : Bool) (p : ℕ) (mark : Mark) → floods own u p mark (byPlace K f) .busy ≡ false → floods own u p mark (byPlace K f) ≡ flooded u p mark false
   unfolding floods byPlace

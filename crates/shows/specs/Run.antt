@@ -6,17 +6,16 @@ use mathlib.Core.Path.{_≡_, refl, sym, _∙_, ap, subst}
 use mathlib.Core.Bool.{Bool, true, false}
 use mathlib.Core.List.{List}
 use Rattle.refusal.specs.Laws.{undone}
-use Rattle.shape.specs.Choice.{if-true, if-false}
 use Rattle.shape.specs.Sizes.{nodesOf}
 use Rattle.shape.specs.declared.Shape.{Shape}
 use Rattle.steps.specs.Steps.{Table}
 use Rattle.steps.specs.Suited.{Suited}
 use Rattle.window.specs.Grow.{grown}
 use Rattle.window.specs.Round.{rounded}
-use Rattle.window.specs.LawsRun.{rests, goes-on, none-left}
+use Rattle.window.specs.LawsRun.{rests, goes-on, none-left, ran-grown}
 use Rattle.window.specs.Merging.{merged}
 use Rattle.window.specs.Run.{stepsFrom, ran}
-use Rattle.window.specs.Window.{isRest, isToGrow, size}
+use Rattle.window.specs.Window.{isRest, size}
 use Rattle.window.specs.declared.Ran.{Ran}
 use Rattle.window.specs.declared.Window.{Window}
 use Rattle.closure.specs.Closure.{Kept}
@@ -27,15 +26,6 @@ use Rattle.shows.specs.Shows.{Shows}
 use Rattle.shows.specs.Riding.{Riding}
 use Rattle.shows.specs.Next.{Live}
 use Rattle.shows.specs.Pass.{Going, pass-rest, pass-on, pass-shows, pass-going, pass-live, pass-riding, pass-kept}
-
--- what a run is, by its stage
-pub ran-grown : (T : Table) (budget : ℕ) (w : Window) → isToGrow (w .stage) ≡ true → ran T budget w ≡ stepsFrom T budget 0 (grown T w)
-unfolding ran
-ran-grown T budget w e = ap (stepsFrom T budget 0) (if-true (isToGrow (w .stage)) (grown T w) w e)
-
-pub ran-merging : (T : Table) (budget : ℕ) (w : Window) → isToGrow (w .stage) ≡ false → ran T budget w ≡ stepsFrom T budget 0 w
-unfolding ran
-ran-merging T budget w e = ap (stepsFrom T budget 0) (if-false (isToGrow (w .stage)) (grown T w) w e)
 
 -- after a round
 pub ran-round : (T : Table) (budget : ℕ) (w : Window) (defects : List ℕ) → ran T budget (rounded T w defects) ≡ stepsFrom T budget 0 (grown T (rounded T w defects))

@@ -7,7 +7,7 @@ use mathlib.Core.Bool.{Bool, true, false}
 use mathlib.Core.List.{List}
 use Rattle.refusal.specs.Laws.{undone}
 use Rattle.shape.specs.Choice.{whether}
-use Rattle.shape.specs.Sizes.{inRange, modelOk}
+use Rattle.shape.specs.Sizes.{IsShape}
 use Rattle.shape.specs.declared.Shape.{Shape}
 use Rattle.steps.specs.Steps.{Table}
 use Rattle.steps.specs.Suited.{Suited}
@@ -42,15 +42,15 @@ pub record Held (T : Table) (P : Plan) (w : Window) (st : State) (rides : Bool) 
   pub live : rides ≡ true → Live T w (λ g. named list count (entry g))
 
 -- a fresh window has no live node
-pub fresh-held : (T : Table) (sh : Shape) → inRange (sh .height) (sh .distance) ≡ true → modelOk (sh .model) ≡ true → (P : Plan) → Planned T (sh .height) (sh .distance) P
+pub fresh-held : (T : Table) (sh : Shape) → IsShape sh → (P : Plan) → Planned T (sh .height) (sh .distance) P
     → (st : State) → Blank P (size (freshWindow T sh)) st → (list : ℕ → ℕ) → Held T P (freshWindow T sh) st true 0 list
 unfolding freshWindow
-fresh-held T sh e m P N st A list =
+fresh-held T sh range P N st A list =
     record {
-      kept = kept-fresh T sh e m;
+      kept = kept-fresh T sh range;
       rest = refl;
       planned = N;
-      shows = fresh-shows T sh e P N st A;
+      shows = fresh-shows T sh (range .sizes) P N st A;
       places = λ i l. absurd (omega arith);
       riding = λ t. fresh-riding T sh;
       live = λ t. fresh-live T sh (λ g. named list 0 (entry g));

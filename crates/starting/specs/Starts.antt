@@ -1,12 +1,12 @@
 -- WHAT THE MACHINE'S ARRAYS HOLD BEFORE THE FIRST ROUND: the fresh window, or a window that was unpacked with all its nodes live. Assumes nothing.
-use Prim.Native.Nat.{ℕ, _+_, _-_, _≤_, _<_}
+use Prim.Native.Nat.{ℕ, _+_, _≤_, _<_}
 use native.Mathlib.Nat.{zero-add, mul-le-mul-right}
 use native.Mathlib.Omega.{arith}
 use mathlib.Core.Path.{_≡_, refl, sym, _∙_, ap, subst}
 use mathlib.Core.Bool.{Bool, true, false}
 use mathlib.Core.List.{List}
 use lib.ListN.{length, getD, replicate, length-replicate, getD-replicate}
-use Rattle.shape.specs.Sizes.{inRange, modelOk, nodesOf, sheetsOf}
+use Rattle.shape.specs.Sizes.{IsShape, nodesOf, sheetsOf}
 use Rattle.shape.specs.declared.Shape.{Shape}
 use Rattle.steps.specs.Steps.{Table}
 use Rattle.steps.specs.Models.{ofModel, suited-model}
@@ -68,7 +68,7 @@ module _ (T : Table) (h d : ℕ) (table : List ℕ) (F : Filled T h d table) whe
   made-node n x m i = getD-replicate {A = ℕ} 4608 x 0 0 (let b = inside n x i .1 in omega arith)
 
 -- THE FRESH WINDOW: marks are the nodes' own numbers
-module _ (sh : Shape) (ok : inRange (sh .height) (sh .distance) ≡ true) (fine : modelOk (sh .model) ≡ true) (z : Sizes) (same : z ≡ sizesOf (ofModel (sh .model)) (sh .height) (sh .distance)) (table : List ℕ) (F : Filled (ofModel (sh .model)) (sh .height) (sh .distance) table)
+module _ (sh : Shape) (range : IsShape sh) (z : Sizes) (same : z ≡ sizesOf (ofModel (sh .model)) (sh .height) (sh .distance)) (table : List ℕ) (F : Filled (ofModel (sh .model)) (sh .height) (sh .distance) table)
     (marks : List ℕ) (own : marks ≡ stored 0 (λ i. getD table i 0) 4608 (replicate {A = ℕ} 4608 0)) where
   abbrev h : ℕ
   h = sh .height
@@ -113,7 +113,7 @@ module _ (sh : Shape) (ok : inRange (sh .height) (sh .distance) ≡ true) (fine 
   unfolding freshWindow
   fresh-starts list =
       subst (λ (y : Sizes). Held (ofModel (sh .model)) (planOf y table) (freshWindow (ofModel (sh .model)) sh) (stateOf nodes marks edges) true 0 list) (sym same)
-      (fresh-held (ofModel (sh .model)) sh ok fine (planOf (sizesOf (ofModel (sh .model)) h d) table) (F .planned) (stateOf nodes marks edges) blank list)
+      (fresh-held (ofModel (sh .model)) sh range (planOf (sizesOf (ofModel (sh .model)) h d) table) (F .planned) (stateOf nodes marks edges) blank list)
 
 -- its first round
 pub fresh-shape : (sh : Shape) → freshWindow (ofModel (sh .model)) sh .shape ≡ sh

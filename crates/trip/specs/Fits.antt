@@ -6,9 +6,9 @@ use mathlib.Core.List.{List, [], _∷_}
 use lib.ListN.{length}
 use Rattle.number.specs.Number.{largest}
 use Rattle.list.specs.Sheet.{areBits}
-use Rattle.shape.specs.Sizes.{detectorsOf, layerEdgesOf}
+use Rattle.shape.specs.Sizes.{IsShape, detectorsOf, layerEdgesOf}
 use Rattle.shape.specs.declared.Shape.{Shape}
-use Rattle.record.specs.Records.{IsShape, Result}
+use Rattle.record.specs.Records.{Result}
 use Rattle.trip.specs.Streams.{Stream}
 
 -- a sheet's detectors, and a layer's edges

@@ -11,11 +11,11 @@ use Rattle.refusal.specs.Ends.{NoEnd, no-end-then, no-end-test}
 use Rattle.refusal.specs.Bytes.{Bytes}
 use Rattle.refusal.specs.Filling.{drop-part}
 use Rattle.number.specs.Number.{written, numberAt}
-use Rattle.number.specs.Trip.{number-reads, NumberWrites, number-writes, number-no-end}
-use Rattle.shape.specs.Sizes.{maxHeight, maxDistance, heightOk, distanceOk, modelOk}
+use Rattle.number.specs.Trip.{number-reads, number-writes, number-no-end}
+use Rattle.shape.specs.Sizes.{IsShape, maxHeight, maxDistance, heightOk, distanceOk, modelOk}
 use Rattle.shape.specs.Ranges.{halves, height-ok, distance-ok, model-ok}
 use Rattle.shape.specs.declared.Shape.{Shape}
-use Rattle.record.specs.Records.{IsShape, header, onModel, onDistance, onHeight, headerAt}
+use Rattle.record.specs.Records.{header, onModel, onDistance, onHeight, headerAt}
 use Rattle.record.specs.Laws.{header-steps, header-next, distance-next, header-done}
 
 -- A SHAPE IN RANGE
@@ -62,14 +62,17 @@ header-reads s at sh rest range e =
     ∙ header-done s h d last (r .distance) m (last + length (written m)) (number-reads s last m rest e₃ (omega arith)) (r .model)
     ∙ ap (λ (i : ℕ). done sh i) behind
 
-pub record HeaderWrites (s : List ℕ) (at : ℕ) (sh : Shape) (next : ℕ) : Type 0 where
-  pub bytes : drop at s ≡ header sh ++ drop next s
+-- what a header that was read is made of: three numbers, each in range
+pub record HeaderMade (s : List ℕ) (at : ℕ) (sh : Shape) (next : ℕ) : Type 0 where
+  pub second : ℕ
+  pub third : ℕ
+  pub height : numberAt s at ≡ done (sh .height) second
+  pub distance : numberAt s second ≡ done (sh .distance) third
+  pub model : numberAt s third ≡ done (sh .model) next
   pub range : IsShape sh
-  pub inside : next ≤ length s
 
-pub header-writes : (s : List ℕ) (at : ℕ) (sh : Shape) (next : ℕ) → Bytes s → headerAt s at ≡ done sh next → HeaderWrites s at sh next
-unfolding header
-header-writes s at sh next b e =
+pub header-made : (s : List ℕ) (at : ℕ) (sh : Shape) (next : ℕ) → headerAt s at ≡ done sh next → HeaderMade s at sh next
+header-made s at sh next e =
     let g₁ : Went (numberAt s at) (onHeight s) sh next = went _ _ _ _ (sym (header-steps s at) ∙ e) in
     let h : ℕ = g₁ .value in
     let p₁ : (heightOk h ≡ true) × (andThen (numberAt s (g₁ .next)) (onDistance s h) ≡ done sh next) = took _ _ _ _ _ refl (g₁ .after) in
@@ -80,17 +83,38 @@ header-writes s at sh next b e =
     let m : ℕ = g₃ .value in
     let o : Shape = record { height = h; distance = d; model = m } in
     let p₃ : (modelOk m ≡ true) × (done o (g₃ .next) ≡ done sh next) = took _ _ _ _ _ refl (g₃ .after) in
-    let w₁ : NumberWrites s at h (g₁ .next) = number-writes s at h (g₁ .next) b (g₁ .before) in
-    let w₂ : NumberWrites s (g₁ .next) d (g₂ .next) = number-writes s (g₁ .next) d (g₂ .next) b (g₂ .before) in
-    let w₃ : NumberWrites s (g₂ .next) m (g₃ .next) = number-writes s (g₂ .next) m (g₃ .next) b (g₃ .before) in
     let same : o ≡ sh = cc (p₃ .1) in
     let last : g₃ .next ≡ next = cc (p₃ .1) in
-    let bytes : drop at s ≡ (written h ++ (written d ++ written m)) ++ drop (g₃ .next) s =
-    w₁ .bytes
-    ∙ ap (λ (l : List ℕ). written h ++ l) (w₂ .bytes ∙ ap (λ (l : List ℕ). written d ++ l) (w₃ .bytes))
-    ∙ sym (simp append-assoc) in
-    subst₂ (λ (x : Shape) (i : ℕ). HeaderWrites s at x i) same last
-    (record { bytes = bytes; range = record { sizes = ap₂ _&&_ (p₁ .0) (p₂ .0); model = p₃ .0 }; inside = w₃ .inside })
+    subst₂ (λ (x : Shape) (i : ℕ). HeaderMade s at x i) same last
+    (record {
+      second = g₁ .next;
+      third = g₂ .next;
+      height = g₁ .before;
+      distance = g₂ .before;
+      model = g₃ .before;
+      range = record { sizes = ap₂ _&&_ (p₁ .0) (p₂ .0); model = p₃ .0 };
+    })
+
+pub record HeaderWrites (s : List ℕ) (at : ℕ) (sh : Shape) (next : ℕ) : Type 0 where
+  pub bytes : drop at s ≡ header sh ++ drop next s
+  pub range : IsShape sh
+  pub inside : next ≤ length s
+
+pub header-writes : (s : List ℕ) (at : ℕ) (sh : Shape) (next : ℕ) → Bytes s → headerAt s at ≡ done sh next → HeaderWrites s at sh next
+unfolding header
+header-writes s at sh next b e =
+    let x = header-made s at sh next e in
+    let h = number-writes s at (sh .height) (x .second) b (x .height) in
+    let d = number-writes s (x .second) (sh .distance) (x .third) b (x .distance) in
+    let m = number-writes s (x .third) (sh .model) next b (x .model) in
+    record {
+      bytes =
+          h .bytes
+          ∙ ap (λ (l : List ℕ). written (sh .height) ++ l) (d .bytes ∙ ap (λ (l : List ℕ). written (sh .distance) ++ l) (m .bytes))
+          ∙ sym (simp append-assoc);
+      range = x .range;
+      inside = m .inside;
+    }
 
 -- a header's reader answers no end
 pub header-no-end : (s : List ℕ) (at : ℕ) → NoEnd (headerAt s at)

@@ -7,6 +7,7 @@ use mathlib.Core.List.{List, _++_, append-assoc}
 use lib.Dec.{ltb}
 use lib.ListN.{length, drop, length-append}
 use borrow.Author.Tests.{ltb-true, ltb-false}
+use Rattle.shape.specs.Sizes.{IsShape}
 use Rattle.refusal.specs.Answer.{Answer, done, ended}
 use Rattle.refusal.specs.Done.{Went, went, took}
 use Rattle.refusal.specs.Ends.{NoEnd, no-end, no-end-then}
@@ -20,7 +21,7 @@ use Rattle.list.specs.Laws.{length-listed}
 use Rattle.shape.specs.Ranges.{ranged}
 use Rattle.shape.specs.LawsSizes.{detectors-le, layer-le}
 use Rattle.shape.specs.declared.Shape.{Shape}
-use Rattle.record.specs.Records.{IsShape, unlessEnded, Result, result, resultFrom}
+use Rattle.record.specs.Records.{unlessEnded, Result, result, resultFrom}
 use Rattle.trip.specs.Streams.{roundOf, resultOf}
 use Rattle.trip.specs.Fits.{edgesIn, detectorsIn, Entries, RoundFits, RecordFits}
 use Rattle.record.specs.Laws.{at-end, before-end, onSteps, onEscapes, onEdges, result-steps, result-done, length-result}

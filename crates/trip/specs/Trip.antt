@@ -4,13 +4,14 @@ use native.Mathlib.Omega.{arith}
 use mathlib.Core.Path.{_≡_, refl, sym, _∙_, ap, subst₂}
 use mathlib.Core.List.{List, [], _∷_, _++_}
 use lib.ListN.{length, drop, length-append, length-drop, drop-of-length-le}
+use Rattle.shape.specs.Sizes.{IsShape}
 use Rattle.refusal.specs.Answer.{Answer, done, ended, refused, refusedAt, andThen}
 use Rattle.refusal.specs.Done.{goes-on, Went, went, never}
 use Rattle.refusal.specs.Ends.{NoEnd, no-end, no-end-then}
 use Rattle.refusal.specs.Bytes.{Bytes, part-inside, at-end}
 use Rattle.refusal.specs.Filling.{drop-part}
 use Rattle.shape.specs.declared.Shape.{Shape}
-use Rattle.record.specs.Records.{IsShape, header, headerAt}
+use Rattle.record.specs.Records.{header, headerAt}
 use Rattle.trip.specs.Streams.{Stream, allBytes, recordsAt, streamOf, bytesOf}
 use Rattle.trip.specs.Fits.{Each, Fits}
 use Rattle.record.specs.Laws.{length-header}

@@ -2,10 +2,10 @@
 -- Assumes nothing.
 use Prim.Native.Nat.{ℕ, _≤_}
 use mathlib.Core.Path.{_≡_}
-use mathlib.Core.Bool.{Bool, true}
+use mathlib.Core.Bool.{Bool}
 use mathlib.Core.List.{List}
 use lib.ListN.{length}
-use Rattle.shape.specs.Sizes.{inRange, modelOk}
+use Rattle.shape.specs.Sizes.{IsShape}
 use Rattle.shape.specs.declared.Shape.{Shape}
 use Rattle.steps.specs.Models.{ofModel}
 use Rattle.window.specs.declared.Window.{Window}
@@ -31,8 +31,7 @@ pub record Scratch (lists : List ℕ) (queued : List Bool) (words : List ℕ) : 
 
 -- the table of the shape; the set that holds the window; the free set, with no edge in its margins; and the live nodes, so many
 pub record Ready (sh : Shape) (z : Sizes) (next : ℕ) (rides : Bool) (live : ℕ) (nodes marks edges free-nodes free-marks free-edges table lists : List ℕ) (queued : List Bool) (words : List ℕ) : Type 0 where
-  pub range : inRange (sh .height) (sh .distance) ≡ true
-  pub model : modelOk (sh .model) ≡ true
+  pub range : IsShape sh
   pub sizes : z ≡ sizesOf (ofModel (sh .model)) (sh .height) (sh .distance)
   pub filled : Filled (ofModel (sh .model)) (sh .height) (sh .distance) table
   pub long : Long nodes marks edges

@@ -6,7 +6,8 @@ use Rattle.window.specs.Window.{isMerging}
 use Rattle.tested.proofs.State.{state-fine}
 use Rattle.calls.proofs.merging.Statement.{statement}
 use Rattle.calls.proofs.merging.Tie as tie
-use Rattle.calls.proofs.Leaves.{merging-on, merging-refused, merging-done}
+use Rattle.calls.proofs.Leaves.{merging-refused, merging-done}
+use Rattle.closure.specs.States.{merging-on}
 
 is-merging-requires : tie.Need-is-merging-requires
 is-merging-requires c κs = search needs

@@ -2,7 +2,7 @@ use native.Mathlib.Omega.{arith}
 use borrow.Author.Needs.{needs}
 use Rattle.flat.proofs.edge.Statement.{statement}
 use Rattle.flat.proofs.edge.Tie as tie
-use Rattle.flat.specs.LawsCodes.{bit-most}
+use Rattle.window.specs.LawsLists.{bit-most}
 
 bit-requires : tie.Need-bit-requires
 bit-requires c κs = search needs

@@ -27,7 +27,7 @@ use Rattle.one_record.proofs.record_on.Tie as tie
 low : (c : tie.After-detectors) → c .detectors .result ≤ maxDetectors
 low c =
     let s = c .before .before .before in
-    omega (arith, c .detectors .ensures, detectors-le (s .args .shape .height) (s .args .shape .distance) (ranged _ _ (s .pre .range)))
+    omega (arith, c .detectors .ensures, detectors-le (s .args .shape .height) (s .args .shape .distance) (ranged _ _ (s .pre .range .sizes)))
 
 lent : (c : tie.After-detectors) → length (take (c .detectors .result) (replicate {A = ℕ} maxDetectors 0)) ≡ c .detectors .result
 lent c = length-take-le _ _ (low c)
@@ -92,7 +92,7 @@ turn-requires c κs =
 record-of-requires : tie.Need-record-of-requires
 record-of-requires c κs =
     let p = c .before .before .before .before .before .before .before .before .before .before .before .before .before .before .before .before .before .before .pre in
-    (record { sizes = p .range; model = p .model }, (p .sizes, (p .filled, read (c .before .before .before .before .before .before .before .before .before .before) .room)))
+    (p .range, (p .sizes, (p .filled, read (c .before .before .before .before .before .before .before .before .before .before) .room)))
 
 add-t43 : tie.Need-add-t43
 add-t43 c = omega (arith, read (c .before .before .before .before .before .before .before .before .before .before .before .before .before .before) .early)

@@ -33,16 +33,15 @@ rounds-on-requires c κs =
     let a = z .before .before .before in
     let sh = a .args .shape in
     record {
-      range = a .pre .sizes;
-      model = a .pre .model;
+      range = a .pre;
       sizes = z .sizes .ensures;
       filled = f .fill .ensures;
-      long = long-fresh sh (a .pre .sizes) (a .pre .model) _ (z .sizes .ensures) _ (f .fill .ensures) _ (o .own-marks .ensures);
+      long = long-fresh sh (a .pre) _ (z .sizes .ensures) _ (f .fill .ensures) _ (o .own-marks .ensures);
       free = long-made;
       outside = none-made _ _ _ _ (f .fill .ensures);
       scratch = scratch-made _ (length-replicate {A = ℕ} 13824 0);
       few = omega arith;
-      held = (freshWindow (ofModel (sh .model)) sh, fresh-shape sh, fresh-next sh ∙ sym (c .before .before .before .before .before .before .before .before .before .before .before .sheets .ensures), fresh-starts sh (a .pre .sizes) (a .pre .model) _ (z .sizes .ensures) _ (f .fill .ensures) _ (o .own-marks .ensures) _);
+      held = (freshWindow (ofModel (sh .model)) sh, fresh-shape sh, fresh-next sh ∙ sym (c .before .before .before .before .before .before .before .before .before .before .before .sheets .ensures), fresh-starts sh (a .pre) _ (z .sizes .ensures) _ (f .fill .ensures) _ (o .own-marks .ensures) _);
     }
 
 same-length : tie.Need-same-length
@@ -56,7 +55,7 @@ returns c =
     let z = f .before .before in
     let a = z .before .before .before in
     let sh = a .args .shape in
-    let e = r .rounds-on .ensures (freshWindow (ofModel (sh .model)) sh) (fresh-shape sh) (fresh-next sh ∙ sym (r .before .before .before .before .before .before .before .before .before .before .before .before .sheets .ensures)) (fresh-starts sh (a .pre .sizes) (a .pre .model) _ (z .sizes .ensures) _ (f .fill .ensures) _ (o .own-marks .ensures) _) in
+    let e = r .rounds-on .ensures (freshWindow (ofModel (sh .model)) sh) (fresh-shape sh) (fresh-next sh ∙ sym (r .before .before .before .before .before .before .before .before .before .before .before .before .sheets .ensures)) (fresh-starts sh (a .pre) _ (z .sizes .ensures) _ (f .fill .ensures) _ (o .own-marks .ensures) _) in
     (e .window, e .leaves)
 
 pub decode-fresh-spec : {M : Type 1} → statement M

@@ -57,8 +57,7 @@ rounds-on-requires c κs =
     let U = u .unpack .ensures in
     let n = safe-made _ _ _ _ (f .fill .ensures) _ (z .sizes .ensures) .nodes in
     record {
-      range = ranged a;
-      model = facts (ofModel (a .args .w .shape .model)) (a .args .w) (a .pre .0) .model;
+      range = record { sizes = ranged a; model = facts (ofModel (a .args .w .shape .model)) (a .args .w) (a .pre .0) .model };
       sizes = z .sizes .ensures;
       filled = f .fill .ensures;
       long = record { of-nodes = U .nodes-long; of-marks = U .marks-long; of-edges = U .edges-long };

@@ -19,7 +19,7 @@ fall-requires c κs =
     let s = c .before .before .before .before .before in
     let a = s .args in
     let p = s .pre .0 in
-    (p .range, (p .sizes, (p .filled, (s .pre .1 .1, (p .free, (held-above _ _ _ (a .old-nodes .now) (a .old-marks .now) (a .old-edges .now) _ _ _ (p .held), p .outside))))))
+    (p .range .sizes, (p .sizes, (p .filled, (s .pre .1 .1, (p .free, (held-above _ _ _ (a .old-nodes .now) (a .old-marks .now) (a .old-edges .now) _ _ _ (p .held), p .outside))))))
 
 grow-requires : tie.Need-grow-requires
 grow-requires c κs =
