@@ -1,5 +1,5 @@
--- FROM A NODE TO ITS ROOT, at rest after every list of calls on a fresh window: the pointers are fewer than N, and they end at the node whose
--- number the mark is. Assumes nothing.
+-- FROM A NODE TO ITS ROOT, at rest after every list of calls on a fresh window: the pointers are fewer than N, and they end at the root of
+-- its cluster, whose number the mark is. Assumes nothing.
 use Prim.Native.Nat.{ℕ, zero, suc, _-_, _≤_, _<_}
 use native.Mathlib.Omega.{arith}
 use mathlib.Core.Path.{_≡_, subst}
@@ -17,9 +17,10 @@ use Rattle.window.specs.Calls.{freshCall}
 use Rattle.window.specs.declared.Mark.the-variants.{Root}
 use Rattle.window.specs.declared.Window.{Window}
 use Rattle.closure.specs.Done.{started}
-use Rattle.law.specs.Law.{Call, IsRoot, Leads, arrived, along, number, play, start}
+use Rattle.law.specs.Law.{Call, IsRoot, Cluster, number, play, start}
 use Rattle.law_holds.specs.Graph.{Chain, here, via, Calm, graph, view}
 use Rattle.law_holds.specs.GraphLaws.{laws}
+use Rattle.law_holds.specs.Rested.{joined}
 use Rattle.law_holds.specs.Clusters.{calm}
 use Rattle.bound.specs.Depth.{rooted-calm, rootWithin, within-zero, within-along, pointed-lt, depth-below}
 use Rattle.bound.specs.Reachable.{Reachable, reachable-fresh, reachable-calls}
@@ -27,21 +28,19 @@ use Rattle.bound.specs.Reachable.{Reachable, reachable-fresh, reachable-
 -- THE STATEMENT
 
 module _ (T : Table) (w : Window) where
-  -- so many pointers, none of them C and each along an edge, lead from a node to a root: the law's `Leads`, counted
+  -- so many pointers, none of them C and each along an edge, lead from a node to a root
   pub data PointersTo : ℕ → ℕ → ℕ → Type 0 where
     none : {g : ℕ} → IsRoot T w g → PointersTo g 0 g
     one-more : {g n r : ℕ} → (IsRoot T w g → ⊥) → to w T (at w g .pointer) g .there ≡ true → PointersTo (to w T (at w g .pointer) g .node) n r → PointersTo g (suc n) r
-
-  pub leads : {g n r : ℕ} → PointersTo g n r → Leads T w g r
-  leads (none e) = arrived e
-  leads (one-more n e p) = along e (leads p)
 
   pub record ToRoot (g : ℕ) : Type 0 where
     pub root : ℕ
     pub pointers : ℕ
     pub follows : PointersTo g pointers root
     pub fewer : pointers < size w
+    -- the node's mark is the root's number, and the root is the one that the law says its cluster has
     pub mark : at w g .mark ≡ Root (number T w root)
+    pub same : (c : Cluster T w g) → root ≡ c .root
 
 -- whenever a list of calls leaves a window at rest
 abbrev pub RootsReached : Table → Type 0
@@ -65,7 +64,7 @@ module _ (T : Table) (S : Suited T) (sh : Shape) where
     to-root : (g : ℕ) → g < size w → ToRoot T w g
     to-root g l =
         let x = followed (size w - 1) (c g l .chain) l (depth-below (graph T w) (view w) (laws T w S (r .kept)) (rooted-calm (graph T w) (view w) c) g l) in
-        record { root = c g l .root; pointers = x .0; follows = x .2; fewer = omega (arith, x .1); mark = c g l .mark }
+        record { root = c g l .root; pointers = x .0; follows = x .2; fewer = omega (arith, x .1); mark = c g l .mark; same = λ k. k .only (c g l .root) (joined T w (c g l .joined)) (c g l .centre) }
 
   at-rest : (w : Window) → Reachable T sh w → isRest (w .stage) ≡ true → (g : ℕ) → g < size w → ToRoot T w g
   at-rest w r st = to-root w r (calm T w (w .stage) st (r .clusters))

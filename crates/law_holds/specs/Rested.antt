@@ -27,13 +27,13 @@ onward : (g : Graph) {v u r : ℕ} → Connected g v u → Connected g u r → C
 onward g same c = c
 onward g (Connected.over o a) c = Connected.over o (onward g a c)
 
-module _ (T : Table) (S : Suited T) (w : Window) (kept : Kept T w) (calm : Calm (graph T w) (view w)) where
-  joined : {v u : ℕ} → Connected (graph T w) v u → Joined T w v u
-  joined same = alone
-  joined (Connected.over o c) =
-      let e = halves _ _ o in
-      Joined.over (record { there = e .0; halves = eqb-true _ _ (e .1) }) (joined c)
+pub joined : (T : Table) (w : Window) {v u : ℕ} → Connected (graph T w) v u → Joined T w v u
+joined T w same = alone
+joined T w (Connected.over o c) =
+    let e = halves _ _ o in
+    Joined.over (record { there = e .0; halves = eqb-true _ _ (e .1) }) (joined T w c)
 
+module _ (T : Table) (S : Suited T) (w : Window) (kept : Kept T w) (calm : Calm (graph T w) (view w)) where
   connected : {v u : ℕ} → v < size w → Joined T w v u → Connected (graph T w) v u × (u < size w)
   connected l alone = (same, l)
   connected l (Joined.over {g = v} {p = p} e j) =
@@ -74,7 +74,7 @@ module _ (T : Table) (S : Suited T) (w : Window) (kept : Kept T w) (calm : Calm 
     cluster =
         record {
           root = home .root;
-          member = joined (home .joined);
+          member = joined T w (home .joined);
           isRoot = home .centre;
           only = λ u j e. home .only u (connected l j .0) e;
           lowest = λ u j. home .least u (connected l j .0);

@@ -6,7 +6,7 @@ use mathlib.Core.Path.{_≡_, refl, sym, _∙_, ap}
 use lib.Dec.{eqb}
 use Rattle.shape.specs.Choice.{if-true, if-false, whether}
 use Rattle.shape.specs.Ranges.{both}
-use Rattle.shape.specs.Sizes.{plainEdges, diagonalEdges, layerEdgesOf}
+use Rattle.shape.specs.Sizes.{plainEdges, layerEdgesOf}
 use Rattle.steps.specs.Steps.{Table, base, naming}
 use Rattle.steps.specs.Ranks.{rank}
 use Rattle.steps.specs.Models.{circuit, ofModel, of-circuit, of-base, suited-base, suited-circuit}
@@ -73,9 +73,6 @@ module _ (h d : ℕ) (d2 : 2 ≤ d) where
 -- MODEL 1
 
 module _ (h d : ℕ) where
-  abbrev pub edges1 : ℕ
-  edges1 = plainEdges h d + diagonalEdges h d
-
   abbrev pub edgeNumber1 : ℕ → ℕ → ℕ → ℕ
   edgeNumber1 zero r c = r * d + c
   edgeNumber1 (suc zero) r c = h * d + r * (d - 1) + (c - 1)
@@ -90,7 +87,7 @@ module _ (h d : ℕ) where
   col-d : d - 1 - 1 ≡ d - 2
   col-d = omega arith
 
-  pub count-1 : layerEdges circuit h d ≡ edges1
+  pub count-1 : layerEdges circuit h d ≡ layerEdgesOf 1 h d
   unfolding circuit naming areas
   count-1 = count-closed circuit suited-circuit h d ∙ rw (row-0 h d, row-1 h d, row-n, col-e h d, col-t h d, col-d) (omega arith)
 
