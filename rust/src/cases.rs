@@ -3,7 +3,7 @@
 use crate::decoder::Window;
 use crate::noise::{stream, Noise};
 use crate::random::Random;
-use crate::streams::{number_bytes, Name, Shape, DISTANCES, HEADER, HEIGHTS, MODELS};
+use crate::streams::{number_bytes, Name, Shape, DISTANCES, HEADER, HEIGHTS, LARGEST_LIMITS, MODELS};
 
 // Random inputs of each kind; the tests count them. Each is compared in many calls: cut short, damaged, at
 // every offset.
@@ -77,7 +77,7 @@ pub fn each_start(seed: u64, mut run: impl FnMut(Shape, &[u8], bool)) {
 
 /// A fresh window, and an edge and an escape buffer that fit it.
 pub fn opened(name: Name) -> (Window, Vec<u8>, Vec<u8>) {
-    let window = Window::fresh(name).expect("a shape in range");
+    let window = Window::fresh(name, LARGEST_LIMITS).expect("a shape in range");
     let shape = window.sheet.shape;
     (window, vec![7; shape.edges()], vec![7; shape.detectors()])
 }

@@ -3,7 +3,7 @@
 
 use crate::decoding::{self, number_of, Decoded, Decoder, Ran, BUDGET};
 use crate::steps::{joined, own_ways, Way, BACK, KIND, STEPS, WAYS};
-use crate::streams::{Name, Shape};
+use crate::streams::{Limits, Name, Shape};
 use std::cmp::Reverse;
 use std::collections::VecDeque;
 use std::sync::Arc;
@@ -163,8 +163,8 @@ fn refuse(bad: bool, number: u8) -> Result<(), u8> {
 
 // Every window here is well-formed: 21 is for whoever reads one from elsewhere.
 impl Window {
-    pub fn fresh(name: Name) -> Result<Window, u8> {
-        Ok(Window::new(Shape::new(name).map_err(number_of)?))
+    pub fn fresh(name: Name, limits: Limits) -> Result<Window, u8> {
+        Ok(Window::new(Shape::allowed(name, limits).map_err(number_of)?))
     }
 
     fn new(shape: Shape) -> Window {

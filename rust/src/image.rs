@@ -1,9 +1,9 @@
 //! A window as the proved crates hold it, well-formed or not: all its entries, in their internal order.
 
 use crate::decoder::{Edge, Layer, Node, Sheet, Stage, Window};
-use crate::decoding::Ran;
+use crate::decoding::{Decoder, Ran};
 use crate::steps::KINDS;
-use crate::streams::{Name, LARGEST};
+use crate::streams::{Limits, Name, Shape, LARGEST};
 
 /// An entry for a node. Pointers are 0 for C and 1 to 12 in the scan order; no mark is reset.
 #[derive(Debug, Clone, Copy, PartialEq, Eq)]
@@ -98,7 +98,7 @@ impl Image {
     /// others have to be zero.
     fn read(&self) -> Option<Window> {
         let mut left = self.clone();
-        let mut window = Window::fresh(self.name()).ok()?;
+        let mut window = Window::open(Shape::new(self.name()).ok()?);
         let sheet = window.sheet.clone();
         (window.stage, window.next) = (self.stage, self.next);
         if (self.next as usize) < sheet.sheets() {
@@ -160,8 +160,8 @@ impl Image {
         answer
     }
 
-    pub fn fresh(name: Name) -> Result<Image, u8> {
-        Ok(Image::of(&Window::fresh(name)?))
+    pub fn fresh(name: Name, limits: Limits) -> Result<Image, u8> {
+        Ok(Image::of(&Window::fresh(name, limits)?))
     }
 
     pub fn round(&mut self, bytes: &[u8], edges: &mut [u8], escapes: &mut [u8]) -> Result<(), u8> {

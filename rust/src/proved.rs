@@ -2,7 +2,7 @@
 //! holds the archive to the calling convention: out-parameters lie between guards, and stay as they were
 //! where the convention says so.
 
-use crate::streams::{Answer, Done, Name, Stop};
+use crate::streams::{Answer, Done, Limits, Name, Stop};
 
 extern "C" {
     fn baizeridge_read_number(src: *const u8, src_len: usize, at: usize, value: *mut u32, place: *mut usize) -> u8;
@@ -155,6 +155,7 @@ extern "C" {
     fn baizeridge_detectors(height: u32, distance: u32, model: u32) -> usize;
     fn baizeridge_layer_edges(height: u32, distance: u32, model: u32) -> usize;
     fn baizeridge_step_bound(height: u32, distance: u32, model: u32) -> usize;
+    fn baizeridge_allowed(height: u32, distance: u32, model: u32, largest_height: u32, largest_distance: u32) -> u8;
 }
 
 /// A shape's sizes: the nodes of its window, the detectors of a sheet, the edges of a layer.
@@ -173,6 +174,15 @@ pub fn sizes([height, distance, model]: Name) -> [usize; 3] {
 pub fn step_bound([height, distance, model]: Name) -> usize {
     // SAFETY: numbers in, a number out.
     unsafe { baizeridge_step_bound(height, distance, model) }
+}
+
+/// Whether a caller's limits allow a shape, or the refusal's number.
+pub fn allowed([height, distance, model]: Name, [largest_height, largest_distance]: Limits) -> Result<(), u8> {
+    // SAFETY: numbers in, a number out.
+    match unsafe { baizeridge_allowed(height, distance, model, largest_height, largest_distance) } {
+        0 => Ok(()),
+        number => Err(number),
+    }
 }
 
 const PLACE: usize = 0x5a5a_5a5a_5a5a_5a5a;

@@ -86,7 +86,7 @@ fn folded(measured: &[bool]) -> u64 {
 
 impl Default for Player {
     fn default() -> Player {
-        Player { image: Image::fresh([1, 2, 0]).expect("1 by 2 is a shape"), full: false }
+        Player { image: Image::fresh([1, 2, 0], [1, 2]).expect("1 by 2 is a shape"), full: false }
     }
 }
 
@@ -104,7 +104,7 @@ impl Player {
         let number = |place: usize| words[place].parse::<u32>().expect("a number of 32 bits");
         match words[0] {
             "open" => {
-                let opened = Image::fresh([1, 2, 3].map(number));
+                let opened = Image::fresh([1, 2, 3].map(number), [4, 5].map(number));
                 let answer = opened.as_ref().map(|_| ()).map_err(|&number| number);
                 self.image = opened.unwrap_or_else(|_| Image::nothing());
                 self.line(format!("open {}", told(answer)))

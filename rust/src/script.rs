@@ -1,11 +1,13 @@
 //! Scripts for `crates/replay`: the one that is stored with it, and others for one model.
 
 mod absent;
+mod creation;
 mod diagonals;
 mod faults;
 mod raw;
 mod runs;
 
+pub use creation::open_line;
 pub use raw::{plain_list, raw_list};
 
 use crate::decoder::{Stage, Window};
@@ -52,7 +54,7 @@ fn stage_line(stage: Stage) -> String {
 pub fn script() -> String {
     let mut script = Script::new(0, Extent::Share, 0);
     script.printed();
-    script.shapes();
+    script.creations();
     for model in [0, 1] {
         script.model = model;
         script.sessions();
@@ -115,10 +117,6 @@ impl Script {
         Random::new(part ^ self.seed << 32, (2 * case + self.model) as u64)
     }
 
-    fn open(&mut self, height: usize, distance: usize) -> String {
-        self.add(format!("open {height} {distance} {}", self.model))
-    }
-
     fn add(&mut self, line: impl AsRef<str>) -> String {
         let line = line.as_ref();
         self.text += line;
@@ -165,27 +163,6 @@ impl Script {
         }
         if self.image().stage == Stage::Merging {
             self.add("merging 999");
-        }
-    }
-
-    fn shapes(&mut self) {
-        self.add("# fresh windows: 0 by 3, 16 by 3, 1 by 1, 1 by 16, both out of range, numbers of 32 bits, the smallest and the largest");
-        let shapes =
-            ["0 3", "16 3", "1 1", "1 16", "0 0", "16 16", "257 3", "3 258", "4294967295 4294967295", "1 2", "15 15"];
-        for (shape, model) in shapes.into_iter().zip([0, 1].into_iter().cycle()) {
-            self.add(format!("open {shape} {model}"));
-        }
-        self.add("# models that there are not: 1 and 2 come first");
-        for shape in ["1 3 2", "1 3 255", "1 3 256", "1 3 257", "1 3 4294967295", "15 15 2", "0 3 2", "1 1 2", "0 1 2"]
-        {
-            self.add(format!("open {shape}"));
-        }
-        self.add("# what a refused shape gives is no window");
-        for shape in ["0 3 1", "3 3 2"] {
-            self.add(format!("open {shape}"));
-            for call in ["round 0 0", "raw 0 0", "grow", "merging 1", "run 1"] {
-                self.add(call);
-            }
         }
     }
 

@@ -32,6 +32,12 @@ const RANGES: [(RangeInclusive<u32>, u8); 3] = [(HEIGHTS, 1), (DISTANCES, 2), (M
 pub const LARGEST: Shape =
     Shape { height: *HEIGHTS.end() as usize, distance: *DISTANCES.end() as usize, model: *MODELS.end() as usize };
 
+/// The largest height and distance that a caller allows.
+pub type Limits = [u32; 2];
+
+/// Of a caller that allows every shape.
+pub const LARGEST_LIMITS: Limits = [*HEIGHTS.end(), *DISTANCES.end()];
+
 /// Bytes of a header: each of its numbers has one.
 pub const HEADER: usize = 3;
 
@@ -51,6 +57,14 @@ impl Shape {
         RANGES.into_iter().zip(name).try_for_each(|((range, refusal), n)| within(n, range, refusal))?;
         let [height, distance, model] = name.map(|n| n as usize);
         Ok(Shape { height, distance, model })
+    }
+
+    /// A shape that a caller creates: each limit is from the shape's own number to the largest one.
+    pub fn allowed(name: Name, limits: Limits) -> Result<Shape, Stop> {
+        let shape = Shape::new(name)?;
+        let mut pairs = name.into_iter().zip(LARGEST_LIMITS).zip(limits);
+        pairs.try_for_each(|((own, largest), limit)| within(limit, own..=largest, 32))?;
+        Ok(shape)
     }
 
     pub fn name(self) -> Name {

@@ -5,7 +5,7 @@ use baizeridge_tests::decoding::DECODED;
 use baizeridge_tests::noise::{stream, Noise};
 use baizeridge_tests::random::Random;
 use baizeridge_tests::repository::{root, text};
-use baizeridge_tests::streams::{Done, Stop, LARGEST};
+use baizeridge_tests::streams::{Done, Stop, LARGEST, LARGEST_LIMITS};
 use baizeridge_tests::{decoder, proved};
 use std::collections::BTreeSet;
 use std::path::Path;
@@ -55,15 +55,28 @@ fn every_declared_function_is_called() {
     }
 }
 
-#[test]
-fn the_example_runs() {
-    let ran = built_and_run("examples/session.c", "session", &["-std=c99"]);
+/// An example program writes these lines, which the README shows.
+fn example_writes(name: &str, expected: &str) {
+    let ran = built_and_run(&format!("examples/{name}.c"), name, &["-std=c99"]);
     assert!(ran.status.success());
-    let expected = "1 by 3, model 0, 4 rounds\n2 steps, edges\n1 steps, edges\n4 steps, edges\n2 steps, edges 0\n\
-                    refused 7 at byte 4, 3 bytes written\n";
     assert_eq!(String::from_utf8_lossy(&ran.stdout), expected);
     let shown: String = expected.lines().map(|line| format!("    {line}\n")).collect();
     assert!(text("README.md").contains(&shown), "the README shows another output");
+}
+
+#[test]
+fn the_session_runs() {
+    let lines = "1 by 3, model 0, 4 rounds\n2 steps, edges\n1 steps, edges\n4 steps, edges\n2 steps, edges 0\n\
+                 refused 7 at byte 4, 3 bytes written\n";
+    example_writes("session", lines);
+}
+
+#[test]
+fn the_console_runs() {
+    example_writes(
+        "console",
+        "7 by 7, model 1: decoded, 9 bytes written\n8 by 7, model 1: refused 32\nrefused 7 at byte 2\n",
+    );
 }
 
 /// A number that the header defines.
@@ -118,6 +131,7 @@ fn the_stack_suffices_to_read_and_write() {
         proved::read_number(&out, 0)?;
         proved::sizes(name);
         proved::step_bound(name);
+        proved::allowed(name, LARGEST_LIMITS).map_err(Stop::Refused)?;
         Ok::<_, Stop>((to_defects == defects, to_edges == edges))
     });
     assert_eq!(ran, Ok((true, true)));

@@ -9,7 +9,7 @@ use baizeridge_tests::decoding::{Ran, DECODED};
 use baizeridge_tests::image::{Image, SLOTS};
 use baizeridge_tests::random::Random;
 use baizeridge_tests::steps::{BACK, KINDS, STEPS, WAYS};
-use baizeridge_tests::streams::Shape;
+use baizeridge_tests::streams::{Shape, LARGEST_LIMITS};
 use baizeridge_tests::tally::{Tally, DONE};
 
 const STAGES: [Stage; 3] = [Stage::Rest, Stage::ToGrow, Stage::Merging];
@@ -179,11 +179,11 @@ fn stages_and_the_last_round() {
 fn shapes() {
     for (height, distance, number) in [(0, 3, 1), (16, 3, 1), (1, 1, 2), (1, 16, 2), (0, 0, 1)] {
         for model in [0, 1, 2, 256] {
-            assert_eq!(Window::fresh([height, distance, model]).err(), Some(number));
+            assert_eq!(Window::fresh([height, distance, model], LARGEST_LIMITS).err(), Some(number));
         }
     }
     for model in WILD_MODELS {
-        assert_eq!(Window::fresh([1, 3, model]).err(), Some(31));
+        assert_eq!(Window::fresh([1, 3, model], LARGEST_LIMITS).err(), Some(31));
     }
     for (height, distance, nodes, edges) in [(1, 2, 9, [3, 3]), (3, 3, 36, [19, 28]), (15, 15, 3_600, [631, 1_204])] {
         for model in [0, 1] {
@@ -225,7 +225,7 @@ fn buffers_that_are_too_small() {
 fn pointers_along_edges() {
     let (mut fitting, mut refused) = (0, 0);
     for name in [[1, 2, 0], [1, 2, 1], [1, 3, 1], [2, 2, 1], [2, 3, 0], [2, 3, 1], [3, 3, 0], [3, 3, 1], [3, 4, 1]] {
-        let fresh = Image::fresh(name).expect("a shape in range");
+        let fresh = Image::fresh(name, LARGEST_LIMITS).expect("a shape in range");
         let shape = Shape::new(name).expect("a shape in range");
         let (h, d, s) = (shape.height, shape.distance, shape.sheets());
         for (stage, there) in STAGES.into_iter().flat_map(|stage| [1, 2, s, s + 1].map(|there| (stage, there))) {
@@ -258,7 +258,7 @@ fn pointers_along_edges() {
 #[test]
 fn slots_of_edges() {
     for name in [[1, 2, 1], [1, 3, 1], [2, 2, 1], [2, 3, 0], [2, 3, 1], [3, 3, 0], [3, 3, 1]] {
-        let fresh = Image::fresh(name).expect("a shape in range");
+        let fresh = Image::fresh(name, LARGEST_LIMITS).expect("a shape in range");
         let shape = Shape::new(name).expect("a shape in range");
         let upward = Sheet::new(shape).spans.iter().filter(|span| span.above).count();
         let used = 6 * shape.height * (shape.distance + 1) * shape.sheets();
@@ -281,7 +281,7 @@ fn slots_of_edges() {
 #[test]
 fn windows_of_no_model() {
     for (stage, model) in STAGES.into_iter().flat_map(|stage| (2..=255).map(move |model| (stage, model))) {
-        let fresh = Image::fresh([2, 3, 1]).expect("a shape in range");
+        let fresh = Image::fresh([2, 3, 1], LARGEST_LIMITS).expect("a shape in range");
         let mut image = Image { stage, model, ..fresh };
         let before = image.clone();
         assert_eq!((image.grow(), image.merging(), image.run(1)), (Err(21), Err(21), Err(21)));

@@ -100,6 +100,15 @@ static void sizes(void) {
     EXPECT(baizeridge_step_bound(0, 3, 0) == 0 && baizeridge_step_bound(1, 3, 2) == 0);
 }
 
+/* A console with patches up to 7 by 7, and limits that are none. */
+static void limits(void) {
+    EXPECT(baizeridge_allowed(7, 7, 1, 7, 7) == 0 && baizeridge_allowed(15, 15, 0, 15, 15) == 0);
+    EXPECT(baizeridge_allowed(8, 7, 0, 7, 7) == 32 && baizeridge_allowed(7, 8, 0, 7, 7) == 32);
+    EXPECT(baizeridge_allowed(3, 3, 0, 16, 7) == 32 && baizeridge_allowed(3, 3, 0, 7, 263) == 32);
+    EXPECT(baizeridge_allowed(0, 3, 2, 0, 0) == 1 && baizeridge_allowed(8, 16, 2, 7, 7) == 2);
+    EXPECT(baizeridge_allowed(8, 8, 2, 7, 7) == 31);
+}
+
 /* NULL with length 0, wherever a slice stands. */
 static void empty_slices(void) {
     uint8_t edges[5] = {0}, escapes[2] = {0};
@@ -135,6 +144,7 @@ int main(void) {
     result_records();
     whole_streams();
     sizes();
+    limits();
     empty_slices();
     return failures > 0;
 }

@@ -10,7 +10,7 @@ use baizeridge_tests::random::Random;
 use baizeridge_tests::replay::{self, Player, LONGEST};
 use baizeridge_tests::repository;
 use baizeridge_tests::script::{plain_list, raw_list};
-use baizeridge_tests::streams::Shape;
+use baizeridge_tests::streams::{Shape, LARGEST_LIMITS};
 
 /// A byte a detector: the defects of the top sheet, and the last measured sheet.
 fn top_and_measured(window: &Window) -> [Vec<u8>; 2] {
@@ -66,7 +66,7 @@ type RoundCall = fn(&mut Image, &[u8], &mut [u8], &mut [u8]) -> Result<(), u8>;
 
 /// At rest, all measurements 1.
 fn measured(shape: Shape) -> Image {
-    let mut image = Image::fresh(shape.name()).expect("a shape in range");
+    let mut image = Image::fresh(shape.name(), LARGEST_LIMITS).expect("a shape in range");
     let (mut edges, mut escapes) = (vec![7; shape.edges()], vec![7; shape.detectors()]);
     image.raw_round(&vec![1; shape.detectors()], &mut edges, &mut escapes).expect("a raw round");
     assert!(matches!(image.run(1_000), Ok(Ran::Rest(_))));

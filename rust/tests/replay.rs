@@ -70,7 +70,7 @@ fn the_program_plays_model_1() {
 #[test]
 fn every_answer_occurs() {
     let answers = [
-        ("open", vec!["done", "refused 1", "refused 2", "refused 31"]),
+        ("open", vec!["done", "refused 1", "refused 2", "refused 31", "refused 32"]),
         ("round", ROUND.to_vec()),
         ("raw", ROUND.to_vec()),
         ("grow", vec!["done", "refused 21", "refused 22"]),
@@ -96,6 +96,15 @@ fn every_answer_occurs() {
 fn models_that_there_are_not() {
     let refused = ["31", "31", "31", "31", "31", "31", "1", "2", "1"].map(|number| format!("open refused {number}"));
     assert_eq!(answers(part(STDOUT, "models that there are not")), refused);
+}
+
+/// The refusals of limits: 1, 2 and 31 come first.
+#[test]
+fn limits_that_forbid_a_shape() {
+    let allowed = ["open done"; 2].map(String::from);
+    let refused =
+        [[32; 10].as_slice(), &[1, 1, 2, 31, 31]].concat().into_iter().map(|number| format!("open refused {number}"));
+    assert_eq!(answers(part(STDOUT, "limits: ")), allowed.into_iter().chain(refused).collect::<Vec<_>>());
 }
 
 /// Lines without the window that they end with.

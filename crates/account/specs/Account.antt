@@ -10,7 +10,7 @@ use lib.Dec.{eqb}
 use lib.ListN.{length, take, getD, replicate}
 use Rattle.refusal.specs.Answer.{done, valueOr}
 use Rattle.refusal.specs.Bytes.{Bytes}
-use Rattle.shape.specs.Sizes.{sheetsOf}
+use Rattle.shape.specs.Sizes.{maxHeight, maxDistance, sheetsOf}
 use Rattle.steps.specs.Steps.{Table}
 use Rattle.steps.specs.Models.{ofModel}
 use Rattle.layers.specs.Layers.{edgeOf}
@@ -21,7 +21,7 @@ use Rattle.trip.specs.Fits.{detectorsIn, edgesIn, InputFits, ResultFits}
 use Rattle.window.specs.Lists.{bit}
 use Rattle.window.specs.Window.{isRest}
 use Rattle.window.specs.Fresh.{freshWindow}
-use Rattle.window.specs.Calls.{runCall}
+use Rattle.window.specs.Calls.{freshCall, runCall}
 use Rattle.window.specs.declared.Window.{Window}
 use Rattle.law.specs.Law.{Call, round, raw, grow, merging, run, Receipt, Played, returned, play, start, Spot, ends, sum, pending, standing, ending, Law}
 use Rattle.decoding.specs.Decoding.{finished, budget, Rounds, rounds, Decoded, behind, decoded}
@@ -170,6 +170,9 @@ pub record WindowAccount (s : List ℕ) (sh : Shape) (r : Rounds) : Type 0 where
 
 -- WHICH DECODINGS have an account, whatever their model; s is a list of bytes, each below 256
 pub record Accounts : Type 0 where
+  -- Each begins with the window that a creation of the header's shape gives for the limits 15 and 15, which refuse none.
+  pub begins : (s : List ℕ) (at : ℕ) (sh : Shape) (next : ℕ) → headerAt s at ≡ done sh next
+      → freshCall (ofModel (sh .model)) (sh .height) (sh .distance) (sh .model) maxHeight maxDistance ≡ done (freshWindow (ofModel (sh .model)) sh) 0
   -- Of any bytes, into a buffer of any size, however it ends, if anything was written;
   pub account : (s : List ℕ) (size : ℕ) → Bytes s → 0 < length (decoded s size .output) → Account s (decoded s size)
   -- and something was, if it finished.

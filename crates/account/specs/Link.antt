@@ -6,17 +6,16 @@ use mathlib.Core.Path.{_≡_, refl, sym, _∙_, ap, ap₂, subst}
 use mathlib.Core.Bool.{Bool}
 use mathlib.Core.List.{List, [], _∷_, _++_, append-nil}
 use Rattle.refusal.specs.Answer.{Answer, done, ended, refused, refusedAt, valueOr, itself}
-use Rattle.refusal.specs.Done.{never}
 use Rattle.refusal.specs.Laws.{value-without}
 use Rattle.steps.specs.Steps.{Table}
 use Rattle.steps.specs.Models.{ofModel}
 use Rattle.shape.specs.declared.Shape.{Shape}
-use Rattle.window.specs.Fresh.{freshWindow, noWindow}
+use Rattle.window.specs.Fresh.{freshWindow}
 use Rattle.window.specs.Measured.{differences}
-use Rattle.window.specs.Calls.{Answered, Round, leaves, freshCall, roundCall, rawCall, growCall}
+use Rattle.window.specs.Calls.{Answered, Round, leaves, freshCall, freshLeaves, roundCall, rawCall, growCall}
+use Rattle.window.specs.LawsFresh.{started, created-by}
 use Rattle.window.specs.declared.Window.{Window}
 use Rattle.calls.specs.Answers.{RoundReturned, roundLeft, roundLeaves, rawLeaves, mergingLeaves, Ended, runLeaves}
-use Rattle.closure.specs.Done.{started}
 use Rattle.law.specs.Law.{Call, round, raw, grow, merging, run, Receipt, Played, receiptOf, returned, receipted, lastRawAfter, play, start, Law}
 use Rattle.law_holds.specs.Play.{play-append}
 use Rattle.law_holds.specs.Theorem.{demand3-model}
@@ -42,8 +41,8 @@ pub record Linked (T : Table) : Type 0 where
   pub mergings : (w : Window) → mergingLeaves T w .window ≡ returned T w merging
   pub runs : (w : Window) (budget : ℕ) → runLeaves T w budget .window ≡ returned T w (run budget)
   -- a fresh window that is done is one that the law starts from
-  pub fresh : (height distance model n : ℕ) → leaves (freshCall T height distance model) itself noWindow .answer ≡ done tt n
-      → freshCall T height distance model ≡ done (leaves (freshCall T height distance model) itself noWindow .window) n
+  pub fresh : (height distance model largestHeight largestDistance n : ℕ) → freshLeaves T height distance model largestHeight largestDistance .answer ≡ done tt n
+      → freshCall T height distance model largestHeight largestDistance ≡ done (freshLeaves T height distance model largestHeight largestDistance .window) n
 
 -- LISTS OF CALLS, by their promises alone: what is left, the receipts and the last raw bytes, after calls that each get the window as the last one returned it
 pub data Promised (fresh : Window) : Played → Type 0 where
@@ -70,7 +69,8 @@ pub data Promised (fresh : Window) : Played → Type 0 where
 
 -- the law of a model holds after them, if the promise of the fresh window for it says that it is done
 abbrev pub Reaches : Type 0
-Reaches = (height distance model n : ℕ) (x : Answered (Unit {0})) → x ≡ leaves (freshCall (ofModel model) height distance model) itself noWindow → x .answer ≡ done tt n
+Reaches =
+    (height distance model largestHeight largestDistance n : ℕ) (x : Answered (Unit {0})) → x ≡ freshLeaves (ofModel model) height distance model largestHeight largestDistance → x .answer ≡ done tt n
     → (p : Played) → Promised (x .window) p → Law (ofModel model) (x .window) p
 
 -- THE PROOF
@@ -81,12 +81,6 @@ receipt-is (done r n) w defects edges escapes = refl
 receipt-is ended w defects edges escapes = refl
 receipt-is (refused n) w defects edges escapes = refl
 receipt-is (refusedAt n at) w defects edges escapes = refl
-
-fresh-is : (a : Answer Window) (n : ℕ) → leaves a itself noWindow .answer ≡ done tt n → a ≡ done (leaves a itself noWindow .window) n
-fresh-is (done w m) n e = let k : m ≡ n = cc in ap (λ (i : ℕ). done w i) k
-fresh-is ended n e = absurd (never e refl)
-fresh-is (refused m) n e = absurd (never e refl)
-fresh-is (refusedAt m at) n e = absurd (never e refl)
 
 pub linked : (T : Table) → Linked T
 linked T =
@@ -99,7 +93,7 @@ linked T =
       grows = λ w. refl;
       mergings = λ w. refl;
       runs = λ w budget. refl;
-      fresh = λ height distance model n e. fresh-is (freshCall T height distance model) n e;
+      fresh = λ height distance model largestHeight largestDistance n e. created-by (freshCall T height distance model largestHeight largestDistance) (freshLeaves T height distance model largestHeight largestDistance) n refl e;
     }
 
 module _ (T : Table) (fresh : Window) where
@@ -162,29 +156,30 @@ module _ (model : ℕ) (fresh : Window) (has : fresh .shape .model ≡ model)
       unreceipted T fresh p (run budget) (x .window) (ap (λ (y : Answered Ended). y .window) f) refl refl l
 
 -- a fresh window has the model that it was created for
-fresh-model : (T : Table) (height distance model : ℕ) (w : Window) (n : ℕ) → freshCall T height distance model ≡ done w n → w .shape .model ≡ model
+fresh-model : (T : Table) (height distance model largestHeight largestDistance : ℕ) (w : Window) (n : ℕ) → freshCall T height distance model largestHeight largestDistance ≡ done w n
+    → w .shape .model ≡ model
 unfolding freshWindow
-fresh-model T height distance model w n e = ap (λ (u : Window). u .shape .model) (sym (started T height distance model w n e .value))
+fresh-model T height distance model largestHeight largestDistance w n e =
+    ap (λ (u : Window). u .shape .model) (sym (started T height distance model largestHeight largestDistance w n e .value))
 
 -- calls by their promises on a fresh window that is done are a list of the law's calls, all of its model
-pub record AsList (height distance model n : ℕ) (fresh : Window) (p : Played) : Type 0 where
-  pub created : freshCall (ofModel model) height distance model ≡ done fresh n
+pub record AsList (height distance model largestHeight largestDistance n : ℕ) (fresh : Window) (p : Played) : Type 0 where
+  pub created : freshCall (ofModel model) height distance model largestHeight largestDistance ≡ done fresh n
   pub calls : List Call
   pub plays : play (ofModel model) (start fresh) calls ≡ p
   pub model-is : p .window .shape .model ≡ model
 
-pub as-list : (height distance model n : ℕ) (x : Answered (Unit {0})) → x ≡ leaves (freshCall (ofModel model) height distance model) itself noWindow → x .answer ≡ done tt n
-    → (p : Played) → Promised (x .window) p → AsList height distance model n (x .window) p
-as-list height distance model n x e d p k =
+pub as-list : (height distance model largestHeight largestDistance n : ℕ) (x : Answered (Unit {0})) → x ≡ freshLeaves (ofModel model) height distance model largestHeight largestDistance
+    → x .answer ≡ done tt n → (p : Played) → Promised (x .window) p → AsList height distance model largestHeight largestDistance n (x .window) p
+as-list height distance model largestHeight largestDistance n x e d p k =
     let T = ofModel model in
-    let f : freshCall T height distance model ≡ done (x .window) n =
-    linked T .fresh height distance model n (ap (λ (y : Answered (Unit {0})). y .answer) (sym e) ∙ d) ∙ ap (λ (y : Answered (Unit {0})). done (y .window) n) (sym e) in
-    let law = demand3-model model height distance model (x .window) n f in
-    let has = fresh-model T height distance model (x .window) n f in
+    let f = created-by (freshCall T height distance model largestHeight largestDistance) x n e d in
+    let law = demand3-model model height distance model largestHeight largestDistance (x .window) n f in
+    let has = fresh-model T height distance model largestHeight largestDistance (x .window) n f in
     let l = listed model (x .window) has law p k in
     record { created = f; calls = l .0; plays = l .1; model-is = model-is model (x .window) has law p l }
 
 pub reached : Reaches
-reached height distance model n x e d p k =
-    let l = as-list height distance model n x e d p k in
-    subst (Law (ofModel model) (x .window)) (l .plays) (demand3-model model height distance model (x .window) n (l .created) (l .calls))
+reached height distance model largestHeight largestDistance n x e d p k =
+    let l = as-list height distance model largestHeight largestDistance n x e d p k in
+    subst (Law (ofModel model) (x .window)) (l .plays) (demand3-model model height distance model largestHeight largestDistance (x .window) n (l .created) (l .calls))

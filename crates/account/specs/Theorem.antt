@@ -18,10 +18,11 @@ use Rattle.record.specs.Records.{header, headerAt, Result}
 use Rattle.record.specs.Laws.{length-header}
 use Rattle.trip.specs.Streams.{Stream, allBytes, bytesOf, inputOf, inputBytes, resultsOf, resultBytes}
 use Rattle.trip.specs.Fits.{InputFits, ResultFits, edgesIn}
-use Rattle.trip.specs.Header.{header-writes}
+use Rattle.trip.specs.Header.{header-made, header-writes}
 use Rattle.trip.specs.RoundTrips.{round-trips}
 use Rattle.window.specs.Window.{isRest}
 use Rattle.window.specs.Fresh.{freshWindow}
+use Rattle.window.specs.LawsFresh.{created}
 use Rattle.window.specs.declared.Window.{Window}
 use Rattle.steps.specs.Models.{ofModel, suited-model}
 use Rattle.layers.specs.Layers.{layerEdges}
@@ -179,4 +180,10 @@ module _ (s : List ℕ) (size : ℕ) (b : Bytes s) where
   in-pieces n sh next e = window-account sh next e _ (followed-resumed (table sh) sh (counted sh) s b size n (fresh sh) next (length (header sh)) (fresh-shape sh) (inside sh next e))
 
 pub accounts : Accounts
-accounts = record { account = once; finishes = written; pieces = λ s size n b sh next e. in-pieces s size b n sh next e }
+accounts =
+    record {
+      begins = λ s at sh next e. created (table sh) sh (header-made s at sh next e .range);
+      account = once;
+      finishes = written;
+      pieces = λ s size n b sh next e. in-pieces s size b n sh next e;
+    }

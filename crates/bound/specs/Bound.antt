@@ -63,6 +63,8 @@ pub record Bounded (T : Table) (most : ℕ) (w : Window) (calls : List Call) : T
   -- and each merging stage takes at most `most` steps, over whichever calls they are made
   pub stages : StageBounded T most (play T (start w) calls .window) (stageSteps T w 0 calls)
 
--- of every fresh window, whatever list of calls it is given
+-- of every fresh window, whatever the limits that it is created for, and whatever list of calls it is given
 abbrev pub MergingRests : Table → Type 0
-MergingRests T = (height distance model : ℕ) (w : Window) (n : ℕ) → freshCall T height distance model ≡ done w n → (calls : List Call) → Bounded T (stepBound height distance model) w calls
+MergingRests T =
+    (height distance model largestHeight largestDistance : ℕ) (w : Window) (n : ℕ) → freshCall T height distance model largestHeight largestDistance ≡ done w n
+    → (calls : List Call) → Bounded T (stepBound height distance model) w calls

@@ -67,13 +67,13 @@ unfolding begun
 never-rests budget = ap (λ (r : Ran). r .rest) (ran-grown base budget due (circles .grows)) ∙ never-steps budget 0
 
 -- so no list of calls on a fresh window leaves it: after the next round a run with the bound would come to rest
-pub unreached : (height distance model : ℕ) (w : Window) (n : ℕ) → freshCall base height distance model ≡ done w n → (calls : List Call)
+pub unreached : (height distance model largestHeight largestDistance : ℕ) (w : Window) (n : ℕ) → freshCall base height distance model largestHeight largestDistance ≡ done w n → (calls : List Call)
     → play base (start w) calls .window ≡ circling → ⊥
 unfolding play
-unreached height distance model w n e calls q =
+unreached height distance model largestHeight largestDistance w n e calls q =
     let most = stepBound height distance model in
     let after = calls ++ (takes 0 ∷ []) in
     let left : play base (start w) after .window ≡ due =
     ap (λ (p : Played). p .window) (play-append base (start w) calls (takes 0 ∷ [])) ∙ ap (λ (v : Window). returned base v (takes 0)) q ∙ circles .received in
-    let c = merging-rests-0 height distance model w n e after .rests (ap (λ (v : Window). isRest (v .stage)) left ∙ circles .moving) in
+    let c = merging-rests-0 height distance model largestHeight largestDistance w n e after .rests (ap (λ (v : Window). isRest (v .stage)) left ∙ circles .moving) in
     undone (sym (c .rests most (omega arith)) ∙ ap (λ (v : Window). ran base most v .rest) left ∙ never-rests most)

@@ -23,11 +23,12 @@ use Rattle.window.specs.Grow.{grown}
 use Rattle.window.specs.Run.{ran}
 use Rattle.window.specs.LawsRun.{ran-grown, ran-merging, ran-count}
 use Rattle.window.specs.Calls.{runCall}
+use Rattle.window.specs.LawsFresh.{started}
 use Rattle.window.specs.declared.Ran.{Ran}
 use Rattle.window.specs.declared.Stage.{Stage}
 use Rattle.window.specs.declared.Stage.the-variants.{Rest, ToGrow, Merging}
 use Rattle.window.specs.declared.Window.{Window}
-use Rattle.closure.specs.Done.{started, staged}
+use Rattle.closure.specs.Done.{staged}
 use Rattle.law.specs.Law.{Call, play, start}
 use Rattle.bound.specs.Bound.{boundOf, stepBound, ComesToRest, Bounded, MergingRests}
 use Rattle.bound.specs.Runs.{run-larger}
@@ -86,8 +87,8 @@ bound-is sh range = ap (λ (a : Answer Shape). valueOr a boundOf 0) (shape-accep
 
 module _ (T : Table) (S : Suited T) where
   holds : MergingRests T
-  holds h d m w n e calls =
-      let x = started T h d m w n e in
+  holds h d m largestHeight largestDistance w n e calls =
+      let x = started T h d m largestHeight largestDistance w n e in
       let sh : Shape = record { height = h; distance = d; model = m } in
       rw (bound-is sh (x .range)) (subst (λ (u : Window). Bounded T (boundOf sh) u calls) (x .value) (bounded T S sh (x .range) calls))
 

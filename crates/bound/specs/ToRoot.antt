@@ -15,8 +15,8 @@ use Rattle.window.specs.Window.{isRest, size, at, to}
 use Rattle.window.specs.Fresh.{freshWindow}
 use Rattle.window.specs.Calls.{freshCall}
 use Rattle.window.specs.declared.Mark.the-variants.{Root}
+use Rattle.window.specs.LawsFresh.{started}
 use Rattle.window.specs.declared.Window.{Window}
-use Rattle.closure.specs.Done.{started}
 use Rattle.law.specs.Law.{Call, IsRoot, Cluster, number, play, start}
 use Rattle.law_holds.specs.Graph.{Chain, here, via, Calm, graph, view}
 use Rattle.law_holds.specs.GraphLaws.{laws}
@@ -45,7 +45,7 @@ module _ (T : Table) (w : Window) where
 -- whenever a list of calls leaves a window at rest
 abbrev pub RootsReached : Table → Type 0
 RootsReached T =
-    (height distance model : ℕ) (w : Window) (n : ℕ) → freshCall T height distance model ≡ done w n → (calls : List Call)
+    (height distance model largestHeight largestDistance : ℕ) (w : Window) (n : ℕ) → freshCall T height distance model largestHeight largestDistance ≡ done w n → (calls : List Call)
     → isRest (play T (start w) calls .window .stage) ≡ true → (g : ℕ) → g < size (play T (start w) calls .window) → ToRoot T (play T (start w) calls .window) g
 
 -- THE PROOF
@@ -70,8 +70,8 @@ module _ (T : Table) (S : Suited T) (sh : Shape) where
   at-rest w r st = to-root w r (calm T w (w .stage) st (r .clusters))
 
 pub roots-reached : (T : Table) → Suited T → RootsReached T
-roots-reached T S h d m w n e calls =
-    let x = started T h d m w n e in
+roots-reached T S h d m largestHeight largestDistance w n e calls =
+    let x = started T h d m largestHeight largestDistance w n e in
     let sh : Shape = record { height = h; distance = d; model = m } in
     let f = reachable-fresh T S sh (x .range) in
     subst (λ (u : Window). isRest (play T (start u) calls .window .stage) ≡ true → (g : ℕ) → g < size (play T (start u) calls .window) → ToRoot T (play T (start u) calls .window) g)

@@ -19,6 +19,7 @@ use Rattle.window.specs.Merging.{merged}
 use Rattle.window.specs.Run.{ran}
 use Rattle.window.specs.declared.Ran.{Ran}
 use Rattle.window.specs.Calls.{Round, receiving, receivingRaw, freshCall, roundCall, rawCall, growCall, mergingCall, runCall}
+use Rattle.window.specs.LawsFresh.{started}
 use Rattle.window.specs.declared.Window.{Window}
 use Rattle.closure.specs.Sized.{Sized}
 use Rattle.steps.specs.Moves.{Move, Steps, tableOf}
@@ -30,7 +31,7 @@ use Rattle.closure.specs.Measured.{measure, measure-sized}
 use Rattle.closure.specs.Grow.{grow, grow-sized}
 use Rattle.closure.specs.Merging.{merging, merging-sized}
 use Rattle.closure.specs.Run.{run-keeps}
-use Rattle.closure.specs.Done.{started, staged, accepted}
+use Rattle.closure.specs.Done.{staged, accepted}
 
 -- well-formed, with arrays of their lengths
 pub record Kept (T : Table) (w : Window) : Type 0 where
@@ -39,7 +40,7 @@ pub record Kept (T : Table) (w : Window) : Type 0 where
 
 -- THE STATEMENT, for each call on any window whose arrays have their lengths, whatever else it is given
 pub record Closed (T : Table) : Type 0 where
-  pub freshCalls : (height distance model : ℕ) (v : Window) (n : ℕ) → freshCall T height distance model ≡ done v n → Kept T v
+  pub freshCalls : (height distance model largestHeight largestDistance : ℕ) (v : Window) (n : ℕ) → freshCall T height distance model largestHeight largestDistance ≡ done v n → Kept T v
   pub roundCalls : (w : Window) (bytes edges escapes : List ℕ) (v : Round) (n : ℕ) → Sized T w → roundCall T w bytes edges escapes ≡ done v n → Kept T (v .window)
   pub rawCalls : (w : Window) (bytes edges escapes : List ℕ) (v : Round) (n : ℕ) → Sized T w → rawCall T w bytes edges escapes ≡ done v n → Kept T (v .window)
   pub growCalls : (w v : Window) (n : ℕ) → Sized T w → growCall T w ≡ done v n → Kept T v
@@ -79,9 +80,9 @@ module _ (T : Table) (S : Suited T) where
 -- THE CALLS
 
 module _ (T : Table) (S : Suited T) where
-  fresh-done : (h d m : ℕ) (v : Window) (n : ℕ) → freshCall T h d m ≡ done v n → Kept T v
-  fresh-done h d m v n e =
-      let x = started T h d m v n e in
+  fresh-done : (h d m largestHeight largestDistance : ℕ) (v : Window) (n : ℕ) → freshCall T h d m largestHeight largestDistance ≡ done v n → Kept T v
+  fresh-done h d m largestHeight largestDistance v n e =
+      let x = started T h d m largestHeight largestDistance v n e in
       subst (λ (u : Window). Kept T u) (x .value) (kept-fresh T (record { height = h; distance = d; model = m }) (x .range))
 
   module _ (w : Window) (s : Sized T w) where

@@ -7,18 +7,15 @@ use borrow.Author.Tests.{eqb-true}
 use lib.Dec.{ltb, eqb}
 use lib.ListN.{length}
 use Rattle.refusal.specs.Answer.{Answer, done, ended, refused, refusedAt, unless}
-use Rattle.refusal.specs.Done.{went, took}
+use Rattle.refusal.specs.Done.{took}
 use Rattle.refusal.specs.Tests.{tests-done}
 use Rattle.list.specs.Sheet.{areBits}
 use Rattle.layers.specs.Layers.{layerEdges}
-use Rattle.shape.specs.Ranges.{both}
-use Rattle.shape.specs.Sizes.{heightOk, distanceOk, modelOk, IsShape, shapeOf, detectorsOf}
+use Rattle.shape.specs.Sizes.{detectorsOf}
 use Rattle.steps.specs.Steps.{Table}
-use Rattle.shape.specs.declared.Shape.{Shape}
 use Rattle.window.specs.Window.{isRest, maxNext}
 use Rattle.window.specs.Formed.{wellFormed}
-use Rattle.window.specs.Fresh.{freshWindow}
-use Rattle.window.specs.Calls.{leaves, Round, stateTests, roundBy, freshCall}
+use Rattle.window.specs.Calls.{leaves, Round, stateTests, roundBy}
 use Rattle.window.specs.declared.Window.{Window}
 
 -- done or refused: what a call leaves of a window
@@ -27,23 +24,6 @@ leaves-keeps P (done v n) of w k e = e v n refl
 leaves-keeps P ended of w k e = k
 leaves-keeps P (refused n) of w k e = k
 leaves-keeps P (refusedAt n at) of w k e = k
-
--- FRESH
-
-pub record Started (T : Table) (height distance model : ℕ) (w : Window) : Type 0 where
-  pub range : IsShape (record { height = height; distance = distance; model = model })
-  pub value : freshWindow T (record { height = height; distance = distance; model = model }) ≡ w
-
-pub started : (T : Table) (h d m : ℕ) (w : Window) (n : ℕ) → freshCall T h d m ≡ done w n → Started T h d m w
-unfolding freshCall
-started T h d m w n e =
-    let x = went (shapeOf h d m) (λ sh m. done (freshWindow T sh) m) w n e in
-    let a = took (heightOk h) _ (refused 1) (x .value) (x .next) refl (x .before) in
-    let b = took (distanceOk d) _ (refused 2) (x .value) (x .next) refl (a .1) in
-    let c = took (modelOk m) _ (refused 31) (x .value) (x .next) refl (b .1) in
-    let sh : Shape = record { height = h; distance = d; model = m } in
-    let same : sh ≡ x .value = tests-done [] sh (x .value) 0 (x .next) (c .1) in
-    record { range = record { sizes = both _ _ (a .0) (b .0); model = c .0 }; value = ap (λ (s : Shape). freshWindow T s) same ∙ tests-done [] (freshWindow T (x .value)) w (x .next) n (x .after) }
 
 -- GROW, MERGING AND RUN
 

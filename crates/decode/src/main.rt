@@ -16,6 +16,8 @@ use libc::STDOUT_FILENO;
 use number::Wrote;
 use record::HeaderRead;
 use refusal::Refusal;
+use shape::MAX_DISTANCE;
+use shape::MAX_HEIGHT;
 use window::Window;
 
 // What was read: how many bytes, or that a read failed.
@@ -122,6 +124,8 @@ fn decode(src: &[u8], out: &mut [u8]) {
                     shape.height as u32,
                     shape.distance as u32,
                     shape.model as u32,
+                    MAX_HEIGHT as u32,
+                    MAX_DISTANCE as u32,
                 );
                 let window = fresh.window;
                 decode_rounds(window, src, next, out, to);

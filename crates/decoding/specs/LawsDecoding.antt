@@ -14,6 +14,7 @@ use Rattle.refusal.specs.Done.{took, passes, fails}
 use Rattle.refusal.specs.Laws.{each}
 use Rattle.refusal.specs.Tests.{Passes}
 use Rattle.refusal.specs.declared.Refusal.{Refusal}
+use Rattle.refusal.specs.Holds.{Hold, hold-pass, done-holds}
 use Rattle.list.specs.Sheet.{listAt}
 use Rattle.list.specs.Trip.{ListWrites, list-writes}
 use Rattle.shape.specs.Choice.{if, if-true, if-false}
@@ -27,7 +28,6 @@ use Rattle.window.specs.Fresh.{freshWindow}
 use Rattle.window.specs.Formed.{wellFormed}
 use Rattle.window.specs.declared.Window.{Window}
 use Rattle.decoding.specs.Decoding.{Line, turnedBack, spent, Turn, Recorded, wrote, stopped, recordWritten, recorded, turnAt, lastTest, recordTests, recordAt, stop, after, roundsFrom, rounds, Decoded, nothingWritten, behind, decoded}
-use Rattle.decoding.specs.LawsTests.{Hold, hold-pass, done-holds}
 use Rattle.decoding.specs.LawsTurn.{detectors, turn-made}
 
 -- ONE RECORD

@@ -7,6 +7,7 @@ use borrow.Author.Tests.{lt-ltb, eq-eqb}
 use lib.ListN.{length, getD, replicate, length-replicate}
 use Rattle.refusal.specs.Answer.{Answer, done, andThen}
 use Rattle.refusal.specs.Done.{goes-on, went}
+use Rattle.refusal.specs.Holds.{hold-pass}
 use Rattle.list.specs.Sheet.{areBits}
 use Rattle.layers.specs.Layers.{edgeOf, layerEdges}
 use Rattle.shape.specs.Nodes.{indexOf}
@@ -25,7 +26,6 @@ use Rattle.window.specs.declared.Window.{Window}
 use Rattle.closure.specs.Round.{round}
 use Rattle.steps.specs.Suited.{Suited}
 use Rattle.decoding.specs.Decoding.{budget, Turn, turnOf, turnAt}
-use Rattle.decoding.specs.LawsTests.{hold-pass}
 
 -- THE SIZES of a sheet and of a layer
 

@@ -1,6 +1,5 @@
 pub mod Decoding
 pub mod Answers
-pub mod LawsTests
 pub mod LawsTurn
 pub mod LawsDecoding
 pub mod Printed

@@ -1,6 +1,7 @@
 // Streams and decoding for programs in C: numbers, byte slices and lent numbers only. Each call ensures one equation, between a record of what
 // its caller sees, by the header's names, and what `specs/Calls.antt` makes of the arguments. `crates/reply` has the status and the place,
-// `crates/named` the shape that a height, a distance and a model name, with its sizes, and `crates/bound` the bound on merging steps.
+// `crates/named` the shape that a height, a distance and a model name, with its sizes, `crates/bound` the bound on merging steps, and
+// `crates/creation` whether a caller's limits allow a shape.
 //
 // A reader or writer returns 0 where it is done, 255 where no bytes are left, and else the refusal's number; unless it returns 0, it leaves
 // every buffer, value and lent offset as it was. `place` takes the offset behind the record, or that of the number's first byte with 7, 8 and 9,
@@ -11,6 +12,8 @@ ghost use Rattle.reply.specs.Reply.{reply, valueOut, headerOut, scanOut};
 ghost use Rattle.exports.specs.Calls.{numberRead, bufferOut, numberWritten, listRead, listWritten, taken, headerRead, headerTaken, headerWritten, roundOut, roundRead, roundTaken, roundWritten, resultOut, resultRead, resultTaken, resultWritten, inputScanned, resultsScanned, decodeOut, streamDecoded};
 ghost use Rattle.named.specs.Named.{nodesBy, detectorsBy, edgesBy};
 ghost use Rattle.bound.specs.Bound.{stepBound};
+ghost use Rattle.creation.specs.Creation.{allowedShape};
+ghost use Rattle.refusal.specs.Answer.{status};
 
 #[no_mangle]
 pub extern "C" fn baizeridge_read_number(
@@ -289,6 +292,20 @@ pub extern "C" fn baizeridge_step_bound(height: u32, distance: u32, model: u32) 
     ensures { λ r. ⌜ r ≡ stepBound height distance model ⌝ }
 {
     bound::step_bound(height, distance, model)
+}
+
+// S-6: whether the caller's largest height and distance allow a shape, told before there is a window: 0, else the refusal's number.
+#[no_mangle]
+pub extern "C" fn baizeridge_allowed(
+    height: u32,
+    distance: u32,
+    model: u32,
+    largest_height: u32,
+    largest_distance: u32,
+) -> u8
+    ensures { λ r. ⌜ r ≡ status (allowedShape height distance model «largest_height» «largest_distance») ⌝ }
+{
+    creation::allowed(height, distance, model, largest_height, largest_distance)
 }
 
 // Decodes a whole input stream. The result stream goes to the front of out, and count takes its length, however it ends: the header's bytes, if

@@ -4,17 +4,17 @@ use mathlib.Core.Path.{_≡_, refl, sym, _∙_, ap}
 use mathlib.Core.Bool.{true, false}
 use mathlib.Core.List.{List}
 use lib.ListN.{replicate}
-use Rattle.refusal.specs.Answer.{Answer, done, refused, turned, andThen, itself}
+use Rattle.refusal.specs.Answer.{Answer, done, turned, andThen, itself}
 use Rattle.refusal.specs.Laws.{turned-not, turned-passed, value-not, turned-as}
-use Rattle.refusal.specs.Done.{took}
 use Rattle.refusal.specs.declared.Refusal.{Refusal}
-use Rattle.shape.specs.Ranges.{both}
-use Rattle.shape.specs.Sizes.{shapeAnswer, heightOk, distanceOk, modelOk, shapeOf, inRange, sheetsOf, nodesOf, maxNodes, maxDetectors}
+use Rattle.shape.specs.Sizes.{shapeAnswer, inRange, sheetsOf, nodesOf, maxNodes, maxDetectors}
+use Rattle.creation.specs.Creation.{allowedShape}
+use Rattle.creation.specs.Laws.{Allowed, allowed-is}
 use Rattle.steps.specs.Steps.{Table}
 use Rattle.steps.specs.Models.{ofModel}
 use Rattle.window.specs.Window.{alone, unused, maxSlots}
 use Rattle.window.specs.Fresh.{freshWindow, noWindow, slots-model}
-use Rattle.window.specs.Calls.{Answered, given, leaves, freshCall}
+use Rattle.window.specs.Calls.{Answered, given, leaves, freshCall, freshLeaves}
 use Rattle.shape.specs.Nodes.{numberOf, placeAt}
 use Rattle.shape.specs.declared.Place.{Place}
 use Rattle.shape.specs.declared.Shape.{Shape}
@@ -27,14 +27,11 @@ use Rattle.window.specs.declared.Window.{Window}
 
 -- A FRESH WINDOW
 
-same-shape : (a b : Shape) → _≡_ {A = Answer Shape} (done a 0) (done b 0) → a ≡ b
-same-shape a b e = cc
-
 freshAs : Table → Answer Shape → Answered (Unit {0})
 freshAs T a = leaves (andThen a (λ sh n. done (freshWindow T sh) n)) itself noWindow
 
-module _ (h d m : ℕ) (r : Shaped) (made : shapeAnswer r ≡ shapeOf h d m) where
-  pub fresh-refused : (f : Refusal) → r ≡ shaped.Refused f → given (turned f) noWindow ≡ leaves (freshCall (ofModel m) h d m) itself noWindow
+module _ (h d m largestHeight largestDistance : ℕ) (r : Shaped) (made : shapeAnswer r ≡ allowedShape h d m largestHeight largestDistance) where
+  pub fresh-refused : (f : Refusal) → r ≡ shaped.Refused f → given (turned f) noWindow ≡ freshLeaves (ofModel m) h d m largestHeight largestDistance
   unfolding freshCall freshAs
   fresh-refused f z =
       let e = ap shapeAnswer (sym z) ∙ made in
@@ -43,23 +40,14 @@ module _ (h d m : ℕ) (r : Shaped) (made : shapeAnswer r ≡ shapeOf h d m) whe
         value-not (turned {A = Window} f) itself noWindow (turned-not Window f),
       ))
 
-  -- a shape that was made is of these numbers, and in range
-  record Made (sh : Shape) : Type 0 where
-    height : heightOk h ≡ true
-    distance : distanceOk d ≡ true
-    same : _≡_ {A = Shape} (record { height = h; distance = d; model = m }) sh
-
-  made-of : (sh : Shape) → r ≡ shaped.Shape sh → Made sh
-  made-of sh z =
-      let a = took (heightOk h) _ (refused 1) sh 0 refl (sym made ∙ ap shapeAnswer z) in
-      let b = took (distanceOk d) _ (refused 2) sh 0 refl (a .1) in
-      let c = took (modelOk m) _ (refused 31) sh 0 refl (b .1) in
-      record { height = a .0; distance = b .0; same = same-shape _ _ (c .1) }
+  -- a shape that was made is the named one, and in range
+  made-of : (sh : Shape) → r ≡ shaped.Shape sh → Allowed h d m largestHeight largestDistance sh
+  made-of sh z = allowed-is h d m largestHeight largestDistance sh 0 (sym made ∙ ap shapeAnswer z)
 
   pub shape-ranged : (sh : Shape) → r ≡ shaped.Shape sh → inRange (sh .height) (sh .distance) ≡ true
-  shape-ranged sh z = let f = made-of sh z in rw (← f .same) (both (heightOk h) (distanceOk d) (f .height) (f .distance))
+  shape-ranged sh z = let f = made-of sh z in rw (← f .same) (f .range .sizes)
 
-  pub fresh-done : (sh : Shape) (v : Window) → r ≡ shaped.Shape sh → v ≡ freshWindow (ofModel (sh .model)) sh → given (done tt 0) v ≡ leaves (freshCall (ofModel m) h d m) itself noWindow
+  pub fresh-done : (sh : Shape) (v : Window) → r ≡ shaped.Shape sh → v ≡ freshWindow (ofModel (sh .model)) sh → given (done tt 0) v ≡ freshLeaves (ofModel m) h d m largestHeight largestDistance
   unfolding freshCall freshAs
   fresh-done sh v z y =
       let k : sh .model ≡ m = ap (λ (x : Shape). x .model) (sym (made-of sh z .same)) in

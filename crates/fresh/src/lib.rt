@@ -11,11 +11,10 @@ use window::Stage;
 use window::Window;
 ghost use mathlib.Core.Path.{_≡_};
 ghost use mathlib.Core.Bool.{true};
-ghost use Rattle.refusal.specs.Answer.{itself};
 ghost use Rattle.shape.specs.Sizes.{inRange};
 ghost use Rattle.steps.specs.Models.{ofModel};
 ghost use Rattle.window.specs.Fresh.{freshWindow, noWindow};
-ghost use Rattle.window.specs.Calls.{callAnswer, given, leaves, freshCall};
+ghost use Rattle.window.specs.Calls.{callAnswer, given, freshLeaves};
 
 // What stands where a shape is refused.
 fn no_window() -> Window
@@ -64,11 +63,23 @@ fn fresh_window(shape: Shape) -> Window
     }
 }
 
-// The fresh window of a height, a distance and a noise model.
-pub fn fresh(height: u32, distance: u32, model: u32) -> Given
-    ensures { λ r. ⌜ given (callAnswer (r .answer)) (r .window) ≡ leaves (freshCall (ofModel model) height distance model) itself noWindow ⌝ }
+// The fresh window of a height, a distance and a noise model, for a caller's largest height and distance.
+pub fn fresh(
+    height: u32,
+    distance: u32,
+    model: u32,
+    largest_height: u32,
+    largest_distance: u32,
+) -> Given
+    ensures { λ r. ⌜ given (callAnswer (r .answer)) (r .window) ≡ freshLeaves (ofModel model) height distance model «largest_height» «largest_distance» ⌝ }
 {
-    let shaped = extent::shape_of(height, distance, model);
+    let shaped = creation::allowed_shape(
+        height,
+        distance,
+        model,
+        largest_height,
+        largest_distance,
+    );
     match shaped {
         Shaped::Refused(f) => Given {
             answer: Called::Refused(f),

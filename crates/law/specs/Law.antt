@@ -260,6 +260,8 @@ pub record Law (T : Table) (fresh : Window) (p : Played) : Type 0 where
   -- the last measured sheet is the bytes of the last raw call that was not refused, all zero if there was none (in plain numbers: `PlainSheet`)
   pub sheet : p .window .measured ≡ asSheet (p .lastRaw)
 
--- of every fresh window, whatever list of calls it is given
+-- of every fresh window, whatever the limits that it is created for, and whatever list of calls it is given
 abbrev pub Demand3 : Table → Type 0
-Demand3 T = (height distance model : ℕ) (w : Window) (n : ℕ) → freshCall T height distance model ≡ done w n → (calls : List Call) → Law T w (play T (start w) calls)
+Demand3 T =
+    (height distance model largestHeight largestDistance : ℕ) (w : Window) (n : ℕ) → freshCall T height distance model largestHeight largestDistance ≡ done w n
+    → (calls : List Call) → Law T w (play T (start w) calls)

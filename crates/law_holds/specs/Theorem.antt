@@ -12,12 +12,12 @@ use Rattle.window.specs.Measured.{asSheet, measuring}
 use Rattle.window.specs.LawsMeasured.{sheet-none}
 use Rattle.window.specs.Grow.{grown}
 use Rattle.window.specs.Merging.{merged}
+use Rattle.window.specs.LawsFresh.{started}
 use Rattle.window.specs.declared.Window.{Window}
 use Rattle.steps.specs.Moves.{Move, Steps, tableOf}
 use Rattle.steps.specs.Suited.{Suited}
 use Rattle.steps.specs.Suits.{suited}
 use Rattle.steps.specs.Models.{phenomenological, circuitLevel, circuit, steps-0, steps-1, base-is, circuit-is, ofModel, of-both}
-use Rattle.closure.specs.Done.{started}
 use Rattle.closure.specs.Facts.{facts}
 use Rattle.closure.specs.Closure.{kept-fresh}
 use Rattle.law.specs.Law.{Played, Call, AbsentEmpty, Law, Demand3, play, start, last}
@@ -87,8 +87,8 @@ module _ (T : Table) (S : Suited T) where
       }
 
   pub holds : Demand3 T
-  holds h d m w n e calls =
-      let x = started T h d m w n e in
+  holds h d m largestHeight largestDistance w n e calls =
+      let x = started T h d m largestHeight largestDistance w n e in
       subst (λ (u : Window). Law T u (play T (start u) calls)) (x .value) (law (record { height = h; distance = d; model = m }) (x .range) calls)
 
 -- every table of distinct non-zero steps, at most one sheet up or down, in which each has its opposite

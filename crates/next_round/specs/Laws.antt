@@ -9,6 +9,7 @@ use lib.ListN.{length}
 use Rattle.refusal.specs.Answer.{Answer, done, ended, refused, refusedAt, unless, andThen}
 use Rattle.refusal.specs.Bytes.{Bytes}
 use Rattle.refusal.specs.Done.{took}
+use Rattle.refusal.specs.Holds.{done-holds}
 use Rattle.list.specs.Sheet.{listAt}
 use Rattle.list.specs.Trip.{list-writes}
 use Rattle.shape.specs.Choice.{whether}
@@ -20,7 +21,6 @@ use Rattle.window.specs.Window.{isRest, maxNext}
 use Rattle.window.specs.Formed.{wellFormed}
 use Rattle.window.specs.declared.Window.{Window}
 use Rattle.decoding.specs.Decoding.{Turn, turnOf, recorded, lastTest, offsetTests, turnAt, recordTests, recordAt}
-use Rattle.decoding.specs.LawsTests.{done-holds}
 use Rattle.decoding.specs.LawsTurn.{detectors, onBytes, turn-steps, turn-done}
 use Rattle.next_round.specs.Next.{nextRound}
 

@@ -9,6 +9,7 @@ use lib.ListN.{length}
 use Rattle.refusal.specs.Answer.{codeOf}
 use Rattle.refusal.specs.Tests.{Passes}
 use Rattle.refusal.specs.declared.Refusal.{Refusal}
+use Rattle.refusal.specs.Holds.{hold-pass}
 use Rattle.number.specs.Number.{writtenBuffered}
 use Rattle.number.specs.declared.Wrote.{Wrote}
 use Rattle.number.specs.declared.Wrote.the-variants as wroteTo
@@ -26,7 +27,6 @@ use Rattle.window.specs.declared.Ran.{Ran}
 use Rattle.window.specs.declared.Window.{Window}
 use Rattle.decoding.specs.Decoding.{turnedBack, spent, turnBy, Recorded}
 use Rattle.decoding.specs.Answers.{recordReturned, recordedLeaves, over, to}
-use Rattle.decoding.specs.LawsTests.{hold-pass}
 use Rattle.decoding.specs.LawsTurn.{committed-long, committed-bits, escaped-long, escaped-bits}
 use Rattle.flat.specs.Entries.{stateOf}
 use Rattle.shows.specs.Shows.{Shows}

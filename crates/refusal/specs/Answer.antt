@@ -3,7 +3,7 @@ use Prim.Native.Nat.{ℕ}
 use mathlib.Core.Bool.{Bool, true, false}
 use mathlib.Core.List.{List, [], _∷_}
 use Rattle.refusal.specs.declared.Refusal.{Refusal}
-use Rattle.refusal.specs.declared.Refusal.the-variants.{Height, Distance, Detectors, Byte, Edges, Escapes, Cut, Form, Entry, Offset, Room, NotWellFormed, WrongStage, LastRound, Model}
+use Rattle.refusal.specs.declared.Refusal.the-variants.{Height, Distance, Detectors, Byte, Edges, Escapes, Cut, Form, Entry, Offset, Room, NotWellFormed, WrongStage, LastRound, Model, Limit}
 
 -- A value and the offset behind it; no bytes left; or a refusal's number, for 7, 8 and 9 with the offset of the number's first byte
 pub data Answer (A : Type 0) : Type 0 where
@@ -34,6 +34,7 @@ codeOf NotWellFormed = plain 21
 codeOf WrongStage = plain 22
 codeOf LastRound = plain 23
 codeOf Model = plain 31
+codeOf Limit = plain 32
 
 abbrev pub byCode : {A : Type 0} → Code → Answer A
 byCode (plain n) = refused n

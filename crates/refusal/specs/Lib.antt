@@ -6,5 +6,6 @@ pub mod Filling
 pub mod Tails
 pub mod Parts
 pub mod Done
+pub mod Holds
 pub mod Ends
 pub mod Bytes

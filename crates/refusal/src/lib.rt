@@ -33,6 +33,8 @@ pub enum Refusal {
     LastRound,
     // The noise model is not 0 or 1.
     Model,
+    // A limit of the caller's is above 15, or the shape is over the limits.
+    Limit,
 }
 
 // The documents' number of a refusal.
@@ -55,6 +57,7 @@ pub fn number(f: Refusal) -> u8
         Refusal::WrongStage => 22,
         Refusal::LastRound => 23,
         Refusal::Model => 31,
+        Refusal::Limit => 32,
     }
 }
 
@@ -78,5 +81,6 @@ pub fn place_or(f: Refusal, other: usize) -> usize
         Refusal::WrongStage => other,
         Refusal::LastRound => other,
         Refusal::Model => other,
+        Refusal::Limit => other,
     }
 }

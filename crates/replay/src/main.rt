@@ -2,7 +2,8 @@
 //
 // The script is text, at most 65,536 bytes: a command a line, by its first letter (with `r` by its second too), then numbers in decimal.
 //
-//   open H D M               a fresh window of height H, distance D and noise model M; where it is refused, the one that the call gives
+//   open H D M LH LD         a fresh window of height H, distance D and noise model M, for a largest height LH and a largest distance LD;
+//                            where it is refused, the one that the call gives
 //   round E S BYTES          a round: edge and escape buffers of E and S bytes (at most 1,280 and 256), each byte 7 before the call;
 //                            the slice's bytes as digits, one a byte (at most 256; none if the line ends)
 //   raw E S BYTES            a raw round, likewise: the bytes are measurements
@@ -337,7 +338,15 @@ fn open(script: &[u8; SCRIPT_BYTES], from: usize) -> Window {
     let height = number(script, from);
     let distance = number(script, height.at);
     let model = number(script, distance.at);
-    let given = fresh::fresh(height.value, distance.value, model.value);
+    let largest_height = number(script, model.at);
+    let largest_distance = number(script, largest_height.at);
+    let given = fresh::fresh(
+        height.value,
+        distance.value,
+        model.value,
+        largest_height.value,
+        largest_distance.value,
+    );
     let answer = given.answer;
     say(b"open ");
     say_called(answer);
@@ -609,7 +618,7 @@ fn line(script: &[u8; SCRIPT_BYTES], from: usize, letter: u8, w: Window) -> Wind
 fn main() {
     let mut script = io::large_buffer();
     io::read_full(0, &mut script);
-    let given = fresh::fresh(1, 2, 0);
+    let given = fresh::fresh(1, 2, 0, 1, 2);
     let mut window = given.window;
     let mut at: usize = 0;
     while at < SCRIPT_BYTES {

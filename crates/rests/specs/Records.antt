@@ -8,6 +8,7 @@ use lib.Dec.{leb, ltb}
 use lib.ListN.{length, replicate}
 use Rattle.refusal.specs.Answer.{Answer, done, ended, refused, refusedAt, Code, plain, placed, unless, valueOr}
 use Rattle.refusal.specs.Done.{took}
+use Rattle.refusal.specs.Holds.{done-holds}
 use Rattle.shape.specs.Choice.{if}
 use Rattle.shape.specs.LawsIndex.{nodes-max}
 use Rattle.shape.specs.declared.Shape.{Shape}
@@ -23,7 +24,6 @@ use Rattle.bound.specs.Reachable.{Reachable, reachable-call}
 use Rattle.bound.specs.Theorem.{run-done}
 use Rattle.decoding.specs.Decoding.{Line, finished, turnedBack, spent, budget, Turn, Recorded, wrote, stopped, recordWritten, recorded, turnAt, lastTest, recordTests, recordAt, Rounds, stop, after, roundsFrom, rounds}
 use Rattle.decoding.specs.LawsDecoding.{record-tested}
-use Rattle.decoding.specs.LawsTests.{done-holds}
 use Rattle.decoding.specs.LawsTurn.{detectors, edges, turn-made}
 use Rattle.account.specs.Account.{resumedFrom}
 

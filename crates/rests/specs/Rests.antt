@@ -4,14 +4,14 @@ use mathlib.Core.Path.{_≡_}
 use mathlib.Core.Bool.{false}
 use mathlib.Core.List.{List}
 use lib.ListN.{length}
-use Rattle.refusal.specs.Answer.{done, itself}
+use Rattle.refusal.specs.Answer.{done}
 use Rattle.shape.specs.declared.Shape.{Shape}
 use Rattle.steps.specs.Models.{ofModel}
 use Rattle.record.specs.Records.{header, headerAt}
 use Rattle.trip.specs.Fits.{Each}
 use Rattle.window.specs.Window.{isRest}
-use Rattle.window.specs.Fresh.{freshWindow, noWindow}
-use Rattle.window.specs.Calls.{Answered, leaves, freshCall}
+use Rattle.window.specs.Fresh.{freshWindow}
+use Rattle.window.specs.Calls.{Answered, freshLeaves}
 use Rattle.decoding.specs.Decoding.{spent, Decoded, decoded}
 use Rattle.calls.specs.Answers.{rest, runLeaves}
 use Rattle.law.specs.Law.{Played}
@@ -23,7 +23,8 @@ use Rattle.account.specs.Account.{resumedFrom, Account}
 pub record RunsRest : Type 0 where
   -- A RUN. Where `fresh` is done: of the window that calls, by their promises, have left, if it is not at rest, a run with the bound of the shape or
   -- more answers rest, and counts at most the bound. (That the bound holds over a mix of merging and run calls is said of the rules: Bound.antt.)
-  pub runs : (height distance model n : ℕ) (x : Answered (Unit {0})) → x ≡ leaves (freshCall (ofModel model) height distance model) itself noWindow → x .answer ≡ done tt n
+  pub runs : (height distance model largestHeight largestDistance n : ℕ) (x : Answered (Unit {0})) → x ≡ freshLeaves (ofModel model) height distance model largestHeight largestDistance
+      → x .answer ≡ done tt n
       → (p : Played) → Promised (x .window) p → isRest (p .window .stage) ≡ false
       → (budget : ℕ) → stepBound height distance model ≤ budget
       → (steps : ℕ) × (steps ≤ stepBound height distance model) × (runLeaves (ofModel (p .window .shape .model)) (p .window) budget .answer ≡ done (rest steps) 0)

@@ -10,6 +10,7 @@ use lib.Dec.{eqb}
 use lib.ListN.{length}
 use Rattle.refusal.specs.Answer.{done}
 use Rattle.refusal.specs.Tests.{Passes}
+use Rattle.refusal.specs.Holds.{hold-pass}
 use Rattle.number.specs.Number.{numberAt, groupAt}
 use Rattle.list.specs.Sheet.{areBits, listAt, entriesAt}
 use Rattle.shape.specs.Choice.{if-false}
@@ -23,7 +24,6 @@ use Rattle.bound.specs.Circling.{circling, due, circles, never-rests}
 use Rattle.decoding.specs.Decoding.{spent, budget, turnOf, stopped, recorded, turnAt, recordTests, recordAt, roundsFrom, rounds}
 use Rattle.decoding.specs.Answers.{roundsLeave}
 use Rattle.decoding.specs.LawsDecoding.{record-turn}
-use Rattle.decoding.specs.LawsTests.{hold-pass}
 use Rattle.decoding.specs.LawsTurn.{detectors, turn-done}
 
 -- one round, empty

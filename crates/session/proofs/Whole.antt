@@ -13,6 +13,7 @@ use Rattle.refusal.specs.Bytes.{Bytes}
 use Rattle.refusal.specs.Tests.{Passes}
 use Rattle.refusal.specs.Writing.{laid}
 use Rattle.refusal.specs.declared.Refusal.{Refusal}
+use Rattle.refusal.specs.Holds.{hold-pass}
 use Rattle.number.specs.Number.{writtenBuffered}
 use Rattle.number.specs.declared.Wrote.{Wrote}
 use Rattle.number.specs.declared.Wrote.the-variants as wroteTo
@@ -28,7 +29,6 @@ use Rattle.record.specs.declared.HeaderRead.the-variants as headerRead
 use Rattle.window.specs.Fresh.{freshWindow}
 use Rattle.decoding.specs.Decoding.{Line, turnedBack, Rounds, rounds, Decoded, behind, decoded}
 use Rattle.decoding.specs.Answers.{RoundsReturned, roundsReturned, decodeReturned, outputLeaves, decodeLeaves}
-use Rattle.decoding.specs.LawsTests.{hold-pass}
 use Rattle.decoding.specs.LawsDecoding.{decoded-turned, decoded-full, decoded-on}
 use Rattle.one_record.proofs.Writers.{writer-full, writer-wrote}
 use Rattle.rounds_on.specs.Laid.{laid-long, laid-more}

@@ -4,13 +4,14 @@ use mathlib.Core.Bool.{Bool, not}
 use mathlib.Core.List.{List, [], _∷_}
 use lib.Dec.{ltb, eqb}
 use lib.ListN.{length}
-use Rattle.refusal.specs.Answer.{Answer, done, turned, unless, andThen, withoutValue, valueOr}
+use Rattle.refusal.specs.Answer.{Answer, done, turned, unless, andThen, withoutValue, valueOr, itself}
 use Rattle.list.specs.Sheet.{areBits}
-use Rattle.shape.specs.Sizes.{shapeOf, detectorsOf}
+use Rattle.shape.specs.Sizes.{detectorsOf}
+use Rattle.creation.specs.Creation.{allowedShape}
 use Rattle.steps.specs.Steps.{Table}
 use Rattle.layers.specs.Layers.{layerEdges}
 use Rattle.window.specs.Window.{isRest, isToGrow, isMerging, maxNext}
-use Rattle.window.specs.Fresh.{freshWindow}
+use Rattle.window.specs.Fresh.{freshWindow, noWindow}
 use Rattle.window.specs.Formed.{wellFormed}
 use Rattle.window.specs.Round.{rounded, committedEdges, escapedDefects}
 use Rattle.window.specs.Measured.{differences, measuring}
@@ -40,9 +41,13 @@ given a w = record { answer = a; window = w }
 abbrev pub leaves : {A : Type 0} → Answer A → (A → Window) → Window → Answered (Unit {0})
 leaves a of w = given (withoutValue a) (valueOr a of w)
 
--- 1, 2, 31
-unfoldable pub freshCall : Table → ℕ → ℕ → ℕ → Answer Window
-freshCall T h d m = andThen (shapeOf h d m) (λ sh n. done (freshWindow T sh) n)
+-- creation, for the caller's largest height and distance: 1, 2, 31, 32
+unfoldable pub freshCall : Table → (height distance model largestHeight largestDistance : ℕ) → Answer Window
+freshCall T height distance model largestHeight largestDistance =
+    andThen (allowedShape height distance model largestHeight largestDistance) (λ sh n. done (freshWindow T sh) n)
+
+abbrev pub freshLeaves : Table → (height distance model largestHeight largestDistance : ℕ) → Answered (Unit {0})
+freshLeaves T height distance model largestHeight largestDistance = leaves (freshCall T height distance model largestHeight largestDistance) itself noWindow
 
 -- what a round call leaves, plain or raw
 pub record Round : Type 0 where

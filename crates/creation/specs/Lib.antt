@@ -1,0 +1,4 @@
+pub mod Creation
+pub mod Laws
+pub mod Plain
+pub mod Witness
