@@ -73,13 +73,7 @@ pub fn fresh(
 ) -> Given
     ensures { λ r. ⌜ given (callAnswer (r .answer)) (r .window) ≡ freshLeaves (ofModel model) height distance model «largest_height» «largest_distance» ⌝ }
 {
-    let shaped = creation::allowed_shape(
-        height,
-        distance,
-        model,
-        largest_height,
-        largest_distance,
-    );
+    let shaped = creation::allowed_shape(height, distance, model, largest_height, largest_distance);
     match shaped {
         Shaped::Refused(f) => Given {
             answer: Called::Refused(f),
