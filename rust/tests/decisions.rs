@@ -1,4 +1,5 @@
-//! What docs/DECISIONS.md says of the source: the functions between crates that ask something of their caller.
+//! What docs/DECISIONS.md says of the source: the functions between crates that ask something of their caller, and the
+//! crates that know of limits.
 
 use baizeridge_tests::repository::{root, text};
 use std::collections::BTreeSet;
@@ -20,24 +21,43 @@ fn asking(source: &str) -> BTreeSet<&str> {
     found
 }
 
+/// The source of each crate that has such a file, with the crate's name.
+fn sources(file: &'static str) -> impl Iterator<Item = (String, String)> {
+    let folders = std::fs::read_dir(root().join("crates")).expect("crates/ can be read");
+    let folders = folders.map(|entry| entry.expect("crates/ can be read").path());
+    folders.filter(move |folder| folder.join(file).exists()).map(move |folder| {
+        let name = folder.file_name().expect("a crate has a name").to_string_lossy().into_owned();
+        (name, text(folder.join(file)))
+    })
+}
+
 #[test]
 fn every_requires_between_crates_is_listed() {
     let mut found = BTreeSet::new();
-    for entry in std::fs::read_dir(root().join("crates")).expect("crates/ can be read") {
-        let folder = entry.expect("crates/ can be read").path();
-        let name = folder.file_name().expect("a crate has a name").to_string_lossy().into_owned();
-        if folder.join("src/lib.rt").exists() {
-            let source = text(folder.join("src/lib.rt"));
-            found.extend(asking(&source).into_iter().map(|function| format!("{name}::{function}")));
-        }
+    for (name, source) in sources("src/lib.rt") {
+        found.extend(asking(&source).into_iter().map(|function| format!("{name}::{function}")));
     }
     let decisions = text("docs/DECISIONS.md");
     let table = decisions.split("**No public call has a `requires`.**").nth(1).expect("the list is there");
     let table = table.split("\n**").next().expect("the list ends");
     let listed = table.lines().filter(|line| line.starts_with("| `")).flat_map(|line| {
         let functions = line.split(" | ").next().unwrap_or_default();
-        functions.split('`').skip(1).step_by(2).map(str::to_owned).collect::<Vec<_>>()
+        quoted(functions)
     });
     assert_eq!(listed.collect::<BTreeSet<_>>(), found);
     assert!(found.iter().all(|name| !name.starts_with("calls::") && !name.starts_with("exports::")));
+}
+
+/// The words in backquotes.
+fn quoted(words: &str) -> BTreeSet<String> {
+    words.split('`').skip(1).step_by(2).map(str::to_owned).collect()
+}
+
+#[test]
+fn limits_are_known_where_windows_are_created() {
+    let all = sources("src/lib.rt").chain(sources("src/main.rt"));
+    let found = all.filter(|(_, source)| source.contains("largest_height")).map(|(name, _)| name);
+    let decisions = text("docs/DECISIONS.md");
+    let listed = decisions.split("**Limits are known to ").nth(1).and_then(|rest| rest.split("**").next());
+    assert_eq!(quoted(listed.expect("the crates are listed")), found.collect());
 }

@@ -9,7 +9,7 @@ use Rattle.refusal.specs.Answer.{Answer, done, valueOr}
 use Rattle.refusal.specs.Laws.{undone}
 use Rattle.refusal.specs.Tests.{pass-none, pass-one}
 use Rattle.shape.specs.Ranges.{shape-accepted}
-use Rattle.shape.specs.Sizes.{IsShape, nodesOf}
+use Rattle.shape.specs.Sizes.{IsShape, nodesOf, shapeBy}
 use Rattle.shape.specs.declared.Shape.{Shape}
 use Rattle.steps.specs.Steps.{Table, base}
 use Rattle.steps.specs.Moves.{Move, Steps, tableOf}
@@ -89,7 +89,7 @@ module _ (T : Table) (S : Suited T) where
   holds : MergingRests T
   holds h d m largestHeight largestDistance w n e calls =
       let x = started T h d m largestHeight largestDistance w n e in
-      let sh : Shape = record { height = h; distance = d; model = m } in
+      let sh : Shape = shapeBy h d m in
       rw (bound-is sh (x .range)) (subst (λ (u : Window). Bounded T (boundOf sh) u calls) (x .value) (bounded T S sh (x .range) calls))
 
 -- every table of distinct non-zero steps, at most one sheet up or down, in which each has its opposite

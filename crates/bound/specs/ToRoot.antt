@@ -7,6 +7,7 @@ use mathlib.Core.Bool.{true}
 use mathlib.Core.List.{List}
 use Rattle.refusal.specs.Answer.{done}
 use Rattle.shape.specs.Ranges.{halves}
+use Rattle.shape.specs.Sizes.{shapeBy}
 use Rattle.shape.specs.declared.Shape.{Shape}
 use Rattle.steps.specs.Steps.{Table}
 use Rattle.steps.specs.Suited.{Suited}
@@ -72,7 +73,7 @@ module _ (T : Table) (S : Suited T) (sh : Shape) where
 pub roots-reached : (T : Table) → Suited T → RootsReached T
 roots-reached T S h d m largestHeight largestDistance w n e calls =
     let x = started T h d m largestHeight largestDistance w n e in
-    let sh : Shape = record { height = h; distance = d; model = m } in
+    let sh : Shape = shapeBy h d m in
     let f = reachable-fresh T S sh (x .range) in
     subst (λ (u : Window). isRest (play T (start u) calls .window .stage) ≡ true → (g : ℕ) → g < size (play T (start u) calls .window) → ToRoot T (play T (start u) calls .window) g)
     (x .value) (at-rest T S sh (play T (start (freshWindow T sh)) calls .window) (reachable-calls T S sh (freshWindow T sh) f calls))

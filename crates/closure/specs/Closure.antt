@@ -6,7 +6,7 @@ use mathlib.Core.List.{List}
 use borrow.Author.Tests.{not-true}
 use lib.ListN.{length}
 use Rattle.refusal.specs.Answer.{done}
-use Rattle.shape.specs.Sizes.{IsShape, detectorsOf}
+use Rattle.shape.specs.Sizes.{IsShape, detectorsOf, shapeBy}
 use Rattle.steps.specs.Steps.{Table}
 use Rattle.shape.specs.declared.Shape.{Shape}
 use Rattle.window.specs.Window.{isRest, isToGrow, isMerging}
@@ -83,7 +83,7 @@ module _ (T : Table) (S : Suited T) where
   fresh-done : (h d m largestHeight largestDistance : ℕ) (v : Window) (n : ℕ) → freshCall T h d m largestHeight largestDistance ≡ done v n → Kept T v
   fresh-done h d m largestHeight largestDistance v n e =
       let x = started T h d m largestHeight largestDistance v n e in
-      subst (λ (u : Window). Kept T u) (x .value) (kept-fresh T (record { height = h; distance = d; model = m }) (x .range))
+      subst (λ (u : Window). Kept T u) (x .value) (kept-fresh T (shapeBy h d m) (x .range))
 
   module _ (w : Window) (s : Sized T w) where
     round-done : (bytes edges escapes : List ℕ) (v : Round) (n : ℕ) → roundCall T w bytes edges escapes ≡ done v n → Kept T (v .window)

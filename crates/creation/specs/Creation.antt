@@ -4,7 +4,7 @@ use mathlib.Core.Bool.{Bool, _&&_}
 use mathlib.Core.List.{List, [], _∷_, _++_}
 use lib.Dec.{leb}
 use Rattle.refusal.specs.Answer.{Answer, done, unless}
-use Rattle.shape.specs.Sizes.{maxHeight, maxDistance, shapeTests}
+use Rattle.shape.specs.Sizes.{maxHeight, maxDistance, shapeTests, shapeBy}
 use Rattle.shape.specs.declared.Shape.{Shape}
 
 -- no limit is above 15,
@@ -25,4 +25,4 @@ creationTests height distance model largestHeight largestDistance =
 
 abbrev pub allowedShape : (height distance model largestHeight largestDistance : ℕ) → Answer Shape
 allowedShape height distance model largestHeight largestDistance =
-    unless (creationTests height distance model largestHeight largestDistance) (done (record { height = height; distance = distance; model = model }) 0)
+    unless (creationTests height distance model largestHeight largestDistance) (done (shapeBy height distance model) 0)

@@ -8,12 +8,9 @@ use Rattle.refusal.specs.Answer.{Answer, done, ended, refused, refusedAt, unles
 use Rattle.refusal.specs.Holds.{hold-pass, done-holds, not-held}
 use Rattle.refusal.specs.Tests.{tests-done, unless-append}
 use Rattle.shape.specs.Ranges.{halves, both}
-use Rattle.shape.specs.Sizes.{maxHeight, maxDistance, IsShape, shapeTests, shapeOf}
+use Rattle.shape.specs.Sizes.{maxHeight, maxDistance, IsShape, shapeTests, shapeBy, shapeOf}
 use Rattle.shape.specs.declared.Shape.{Shape}
 use Rattle.creation.specs.Creation.{limitsAllow, creationTests, allowedShape}
-
-abbrev named : ℕ → ℕ → ℕ → Shape
-named h d m = record { height = h; distance = d; model = m }
 
 module _ (h d m largestHeight largestDistance : ℕ) where
   abbrev limitsTest : List (Bool × ℕ)
@@ -21,31 +18,31 @@ module _ (h d m largestHeight largestDistance : ℕ) where
 
   -- A SHAPE THAT IS ALLOWED is a shape, the named one, and the limits allow it
   pub record Allowed (sh : Shape) : Type 0 where
-    pub range : IsShape (named h d m)
+    pub range : IsShape (shapeBy h d m)
     pub limits : limitsAllow h d largestHeight largestDistance ≡ true
-    pub same : named h d m ≡ sh
+    pub same : shapeBy h d m ≡ sh
 
   pub allowed-is : (sh : Shape) (n : ℕ) → allowedShape h d m largestHeight largestDistance ≡ done sh n → Allowed sh
   allowed-is sh n e =
-      let x = done-holds (creationTests h d m largestHeight largestDistance) (done (named h d m) 0) sh n e in
+      let x = done-holds (creationTests h d m largestHeight largestDistance) (done (shapeBy h d m) 0) sh n e in
       record {
         range = record { sizes = both _ _ (x .0 .0) (x .0 .1 .0); model = x .0 .1 .1 .0 };
         limits = x .0 .1 .1 .1 .0;
-        same = tests-done [] (named h d m) sh 0 n (x .1);
+        same = tests-done [] (shapeBy h d m) sh 0 n (x .1);
       }
 
   -- BY THE SHAPE'S OWN TESTS: what they refuse is refused so, whatever the limits;
   pub shape-first : (a : Answer Shape) → isDone a ≡ false → shapeOf h d m ≡ a → allowedShape h d m largestHeight largestDistance ≡ a
   shape-first a k e =
-      unless-append (shapeTests h d m) limitsTest (done (named h d m) 0) ∙ not-held (shapeTests h d m) (named h d m) 0 a (unless limitsTest (done (named h d m) 0)) k e
+      unless-append (shapeTests h d m) limitsTest (done (shapeBy h d m) 0) ∙ not-held (shapeTests h d m) (shapeBy h d m) 0 a (unless limitsTest (done (shapeBy h d m) 0)) k e
 
   -- of any other the limits decide
   pub limits-decide : (sh : Shape) (n : ℕ) → shapeOf h d m ≡ done sh n → (b : Bool) → limitsAllow h d largestHeight largestDistance ≡ b
       → allowedShape h d m largestHeight largestDistance ≡ unless ((b, 32) ∷ []) (done sh n)
   limits-decide sh n e b l =
-      let x = done-holds (shapeTests h d m) (done (named h d m) 0) sh n e in
-      unless-append (shapeTests h d m) limitsTest (done (named h d m) 0)
-      ∙ hold-pass (shapeTests h d m) (x .0) Shape (unless limitsTest (done (named h d m) 0))
+      let x = done-holds (shapeTests h d m) (done (shapeBy h d m) 0) sh n e in
+      unless-append (shapeTests h d m) limitsTest (done (shapeBy h d m) 0)
+      ∙ hold-pass (shapeTests h d m) (x .0) Shape (unless limitsTest (done (shapeBy h d m) 0))
       ∙ ap (λ (a : Answer Shape). unless limitsTest a) (x .1)
       ∙ ap (λ (b : Bool). unless ((b, 32) ∷ []) (done sh n)) l
 
@@ -55,7 +52,7 @@ largest-limits h d m = go (shapeOf h d m) refl
   where
     go : (a : Answer Shape) → shapeOf h d m ≡ a → allowedShape h d m maxHeight maxDistance ≡ a
     go (done sh n) e =
-        let x = done-holds (shapeTests h d m) (done (named h d m) 0) sh n e in
+        let x = done-holds (shapeTests h d m) (done (shapeBy h d m) 0) sh n e in
         limits-decide h d m maxHeight maxDistance sh n e true
         (both (leb h maxHeight) (leb d maxDistance) (halves (leb 1 h) (leb h maxHeight) (x .0 .0) .1) (halves (leb 2 d) (leb d maxDistance) (x .0 .1 .0) .1))
     go ended e = shape-first h d m maxHeight maxDistance ended refl e

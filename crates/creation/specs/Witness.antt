@@ -1,13 +1,14 @@
 -- Creations by value: the refusals in their order, and limits at their edges. Assumes nothing.
 use mathlib.Core.Path.{_≡_, refl}
 use Rattle.refusal.specs.Answer.{done, refused}
+use Rattle.shape.specs.Sizes.{shapeBy}
 use Rattle.creation.specs.Creation.{allowedShape}
 
 pub record Witness : Type 0 where
   -- the rack's limits, the console's, and limits as tight as they can be
-  pub rack : allowedShape 15 15 1 15 15 ≡ done (record { height = 15; distance = 15; model = 1 }) 0
-  pub console : allowedShape 7 7 0 7 7 ≡ done (record { height = 7; distance = 7; model = 0 }) 0
-  pub smallest : allowedShape 1 2 0 1 2 ≡ done (record { height = 1; distance = 2; model = 0 }) 0
+  pub rack : allowedShape 15 15 1 15 15 ≡ done (shapeBy 15 15 1) 0
+  pub console : allowedShape 7 7 0 7 7 ≡ done (shapeBy 7 7 0) 0
+  pub smallest : allowedShape 1 2 0 1 2 ≡ done (shapeBy 1 2 0) 0
   -- over one limit, or the other
   pub high : allowedShape 8 7 0 7 7 ≡ refused 32
   pub wide : allowedShape 7 8 0 7 7 ≡ refused 32

@@ -5,12 +5,12 @@ use Rattle.refusal.specs.Answer.{nextOr}
 use Rattle.refusal.specs.Writing.{Buffered}
 use Rattle.number.specs.Number.{numberAt, writeNumber}
 use Rattle.list.specs.Sheet.{readList, writeList}
+use Rattle.shape.specs.Sizes.{shapeBy}
 use Rattle.record.specs.Records.{headerAt}
 use Rattle.record.specs.Calls.{ResultBuffered, writeHeader, readRound, writeRound, readResult, writeResult, asResult}
 use Rattle.trip.specs.Streams.{inputOf, resultsOf}
 use Rattle.scan.specs.Scanned.{scanned}
 use Rattle.decoding.specs.Answers.{DecodeReturned, decodeLeaves}
-use Rattle.named.specs.Named.{shapeBy}
 use Rattle.reply.specs.Reply.{Reply, replied, ValueOut, valueBy, HeaderOut, headerBy, ScanOut, scanBy, concluded}
 
 -- NUMBERS AND LISTS

@@ -3,7 +3,7 @@ use Prim.Native.Nat.{ℕ, _+_}
 use native.Mathlib.Omega.{arith}
 use mathlib.Core.Path.{_≡_, refl, sym, subst}
 use mathlib.Core.List.{List}
-use Rattle.shape.specs.Sizes.{IsShape}
+use Rattle.shape.specs.Sizes.{IsShape, shapeBy}
 use Rattle.steps.specs.Steps.{Table, base}
 use Rattle.shape.specs.declared.Shape.{Shape}
 use Rattle.window.specs.Fresh.{freshWindow}
@@ -89,7 +89,7 @@ module _ (T : Table) (S : Suited T) where
   pub holds : Demand3 T
   holds h d m largestHeight largestDistance w n e calls =
       let x = started T h d m largestHeight largestDistance w n e in
-      subst (λ (u : Window). Law T u (play T (start u) calls)) (x .value) (law (record { height = h; distance = d; model = m }) (x .range) calls)
+      subst (λ (u : Window). Law T u (play T (start u) calls)) (x .value) (law (shapeBy h d m) (x .range) calls)
 
 -- every table of distinct non-zero steps, at most one sheet up or down, in which each has its opposite
 pub demand3 : (ms : List Move) → Steps ms → Demand3 (tableOf ms)

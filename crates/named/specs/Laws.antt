@@ -13,11 +13,11 @@ use Rattle.refusal.specs.Writing.{writing}
 use Rattle.refusal.specs.declared.Refusal.{Refusal}
 use Rattle.list.specs.Sheet.{listed, areBits, readInto}
 use Rattle.shape.specs.Choice.{whether, if-true, if-false}
-use Rattle.shape.specs.Sizes.{maxHeight, maxDistance, heightOk, distanceOk, modelOk, shapeOf, sizeBy, detectorsOf, layerEdgesOf}
+use Rattle.shape.specs.Sizes.{maxHeight, maxDistance, heightOk, distanceOk, modelOk, shapeBy, shapeOf, sizeBy, detectorsOf, layerEdgesOf}
 use Rattle.shape.specs.declared.Shape.{Shape}
 use Rattle.record.specs.Records.{Result, header, result, roundAt, resultAt}
 use Rattle.record.specs.Calls.{defectsTest, edgesTest, escapesTest, readIntoBoth, writeHeader, readRound, writeRound, readResult, writeResult}
-use Rattle.named.specs.Named.{shapeBy, none, clip}
+use Rattle.named.specs.Named.{none, clip}
 
 -- SIZES
 

@@ -2,12 +2,8 @@
 use Prim.Native.Nat.{ℕ}
 use lib.Dec.{ltb}
 use Rattle.shape.specs.Choice.{if}
-use Rattle.shape.specs.Sizes.{sizeBy, nodesOf, detectorsOf, layerEdgesOf}
+use Rattle.shape.specs.Sizes.{shapeBy, sizeBy, nodesOf, detectorsOf, layerEdgesOf}
 use Rattle.shape.specs.declared.Shape.{Shape}
-
--- in range or not
-abbrev pub shapeBy : ℕ → ℕ → ℕ → Shape
-shapeBy height distance model = record { height = height; distance = distance; model = model }
 
 -- AS BYTES: 255 for what no byte holds, which is out of range as well
 

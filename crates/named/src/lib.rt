@@ -1,8 +1,8 @@
 // The shape that a height, a distance and a model from C name, and its sizes.
 ghost use mathlib.Core.Path.{_≡_};
 ghost use Rattle.refusal.specs.Answer.{valueOr, itself};
-ghost use Rattle.shape.specs.Sizes.{shapeOf};
-ghost use Rattle.named.specs.Named.{shapeBy, clip, none, nodesBy, detectorsBy, edgesBy};
+ghost use Rattle.shape.specs.Sizes.{shapeBy, shapeOf};
+ghost use Rattle.named.specs.Named.{clip, none, nodesBy, detectorsBy, edgesBy};
 use shape::Shape;
 use shape::Shaped;
 

@@ -16,7 +16,7 @@ use Rattle.number.specs.Number.{written, numberAt}
 use Rattle.number.specs.Laws.{length-written}
 use Rattle.list.specs.Sheet.{listed, listAt, readInto}
 use Rattle.list.specs.Laws.{length-listed}
-use Rattle.shape.specs.Sizes.{heightOk, distanceOk, modelOk, detectorsOf, layerEdgesOf}
+use Rattle.shape.specs.Sizes.{heightOk, distanceOk, modelOk, detectorsOf, layerEdgesOf, shapeBy}
 use Rattle.shape.specs.declared.Shape.{Shape}
 use Rattle.record.specs.Records.{header, onModel, onDistance, onHeight, headerAt, unlessEnded, Result, result, resultFrom, resultAt, roundAt, resultEdges, resultEscapes}
 use Rattle.record.specs.Calls.{placeTests, defectsTest, edgesTest, escapesTest, readRound, resultBuffered, readIntoBoth, readResult, stepsOf}
@@ -67,7 +67,7 @@ module _ (s : List ℕ) (h d at : ℕ) where
       pub model-wrong : modelOk m ≡ false → onDistance s h d at ≡ refused 31
       model-wrong w = by-model ∙ fails _ _ w
 
-      pub header-done : modelOk m ≡ true → onDistance s h d at ≡ done (record { height = h; distance = d; model = m }) behind
+      pub header-done : modelOk m ≡ true → onDistance s h d at ≡ done (shapeBy h d m) behind
       header-done w = by-model ∙ passes _ _ w
 
 pub header-is : (sh : Shape) → header sh ≡ written (sh .height) ++ (written (sh .distance) ++ written (sh .model))

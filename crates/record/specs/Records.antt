@@ -7,7 +7,7 @@ use lib.ListN.{length}
 use Rattle.refusal.specs.Answer.{Answer, done, ended, refused, andThen}
 use Rattle.number.specs.Number.{written, numberAt}
 use Rattle.list.specs.Sheet.{listed, listAt}
-use Rattle.shape.specs.Sizes.{heightOk, distanceOk, modelOk}
+use Rattle.shape.specs.Sizes.{heightOk, distanceOk, modelOk, shapeBy}
 use Rattle.shape.specs.declared.Shape.{Shape}
 
 -- THE HEADER: height, distance, noise model
@@ -17,7 +17,7 @@ header sh = written (sh .height) ++ (written (sh .distance) ++ written (sh .mode
 
 -- each number is tested as soon as it is read: what is done with the model, with the distance, and with the height
 abbrev pub onModel : ℕ → ℕ → ℕ → ℕ → Answer Shape
-onModel h d m behind = elim (modelOk m) [ true ↦ done (record { height = h; distance = d; model = m }) behind | false ↦ refused 31 ]
+onModel h d m behind = elim (modelOk m) [ true ↦ done (shapeBy h d m) behind | false ↦ refused 31 ]
 
 abbrev pub onDistance : List ℕ → ℕ → ℕ → ℕ → Answer Shape
 onDistance s h d last = elim (distanceOk d) [ true ↦ andThen (numberAt s last) (onModel h d) | false ↦ refused 2 ]

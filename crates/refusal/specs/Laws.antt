@@ -3,7 +3,7 @@ use Prim.Native.Nat.{ℕ}
 use mathlib.Core.Path.{_≡_, refl, sym, _∙_, ap}
 use mathlib.Core.Bool.{true, false}
 use native.Mathlib.Omega.{arith}
-use Rattle.refusal.specs.Answer.{Answer, done, ended, refused, refusedAt, Code, plain, placed, codeOf, byCode, turned, andThen, isDone, withoutValue, nextOr, valueOr}
+use Rattle.refusal.specs.Answer.{Answer, done, ended, refused, refusedAt, Code, plain, placed, codeOf, byCode, turned, status, andThen, isDone, withoutValue, nextOr, valueOr}
 use Rattle.refusal.specs.declared.Refusal.{Refusal}
 
 -- what holds of both kinds of number holds of every refusal
@@ -26,6 +26,9 @@ turned-not A f = each (λ (k : Code). isDone (byCode {A = A} k) ≡ false) (λ n
 
 pub turned-next : (A : Type 0) (f : Refusal) (other : ℕ) → nextOr (turned {A = A} f) other ≡ other
 turned-next A f other = each (λ (k : Code). nextOr (byCode {A = A} k) other ≡ other) (λ n. refl) (λ n at. refl) f
+
+pub turned-status : (A B : Type 0) (f : Refusal) → status (turned {A = A} f) ≡ status (turned {A = B} f)
+turned-status A B f = each (λ (k : Code). status (byCode {A = A} k) ≡ status (byCode {A = B} k)) (λ n. refl) (λ n at. refl) f
 
 pub undone : true ≡ false → ⊥
 undone e = let z : _≡_ {A = ℕ} 0 1 = cc in omega arith

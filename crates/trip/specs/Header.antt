@@ -12,7 +12,7 @@ use Rattle.refusal.specs.Bytes.{Bytes}
 use Rattle.refusal.specs.Filling.{drop-part}
 use Rattle.number.specs.Number.{written, numberAt}
 use Rattle.number.specs.Trip.{number-reads, number-writes, number-no-end}
-use Rattle.shape.specs.Sizes.{IsShape, maxHeight, maxDistance, heightOk, distanceOk, modelOk}
+use Rattle.shape.specs.Sizes.{IsShape, maxHeight, maxDistance, heightOk, distanceOk, modelOk, shapeBy}
 use Rattle.shape.specs.Ranges.{halves, height-ok, distance-ok, model-ok}
 use Rattle.shape.specs.declared.Shape.{Shape}
 use Rattle.record.specs.Records.{header, onModel, onDistance, onHeight, headerAt}
@@ -81,7 +81,7 @@ header-made s at sh next e =
     let p₂ : (distanceOk d ≡ true) × (andThen (numberAt s (g₂ .next)) (onModel h d) ≡ done sh next) = took _ _ _ _ _ refl (g₂ .after) in
     let g₃ : Went (numberAt s (g₂ .next)) (onModel h d) sh next = went _ _ _ _ (p₂ .1) in
     let m : ℕ = g₃ .value in
-    let o : Shape = record { height = h; distance = d; model = m } in
+    let o : Shape = shapeBy h d m in
     let p₃ : (modelOk m ≡ true) × (done o (g₃ .next) ≡ done sh next) = took _ _ _ _ _ refl (g₃ .after) in
     let same : o ≡ sh = cc (p₃ .1) in
     let last : g₃ .next ≡ next = cc (p₃ .1) in
@@ -125,6 +125,6 @@ header-no-end s at =
     (no-end-then (numberAt s next) (onDistance s h) (number-no-end s next) (λ d last.
     no-end-test (distanceOk d) (andThen (numberAt s last) (onModel h d)) (refused 2)
     (no-end-then (numberAt s last) (onModel h d) (number-no-end s last) (λ m behind.
-    no-end-test (modelOk m) (done (record { height = h; distance = d; model = m }) behind) (refused 31) tt tt))
+    no-end-test (modelOk m) (done (shapeBy h d m) behind) (refused 31) tt tt))
     tt))
     tt)

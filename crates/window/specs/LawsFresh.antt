@@ -8,7 +8,7 @@ use Rattle.refusal.specs.Done.{went}
 use Rattle.refusal.specs.Laws.{done-on}
 use Rattle.refusal.specs.Tests.{tests-done}
 use Rattle.shape.specs.Ranges.{shape-accepted}
-use Rattle.shape.specs.Sizes.{maxHeight, maxDistance, IsShape}
+use Rattle.shape.specs.Sizes.{maxHeight, maxDistance, IsShape, shapeBy}
 use Rattle.shape.specs.declared.Shape.{Shape}
 use Rattle.creation.specs.Creation.{allowedShape, limitsAllow}
 use Rattle.creation.specs.Laws.{allowed-is, largest-limits}
@@ -18,9 +18,9 @@ use Rattle.window.specs.Calls.{Answered, leaves, freshCall}
 use Rattle.window.specs.declared.Window.{Window}
 
 pub record Started (T : Table) (height distance model largestHeight largestDistance : ℕ) (w : Window) : Type 0 where
-  pub range : IsShape (record { height = height; distance = distance; model = model })
+  pub range : IsShape (shapeBy height distance model)
   pub limits : limitsAllow height distance largestHeight largestDistance ≡ true
-  pub value : freshWindow T (record { height = height; distance = distance; model = model }) ≡ w
+  pub value : freshWindow T (shapeBy height distance model) ≡ w
 
 pub started : (T : Table) (h d m largestHeight largestDistance : ℕ) (w : Window) (n : ℕ) → freshCall T h d m largestHeight largestDistance ≡ done w n
     → Started T h d m largestHeight largestDistance w

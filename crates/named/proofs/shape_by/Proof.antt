@@ -1,7 +1,8 @@
 -- `named::shape_by` meets its contract. Assumes nothing.
 use Prim.Native.Nat.{ℕ}
 use mathlib.Core.Path.{_∙_, ap}
-use Rattle.named.specs.Named.{shapeBy, clip}
+use Rattle.shape.specs.Sizes.{shapeBy}
+use Rattle.named.specs.Named.{clip}
 use borrow.Author.Needs.{needs}
 use Rattle.named.proofs.shape_by.Statement.{statement}
 use Rattle.named.proofs.shape_by.Tie as tie
