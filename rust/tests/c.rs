@@ -73,10 +73,9 @@ fn the_session_runs() {
 
 #[test]
 fn the_console_runs() {
-    example_writes(
-        "console",
-        "7 by 7, model 1: decoded, 9 bytes written\n8 by 7, model 1: refused 32\nrefused 7 at byte 2\n",
-    );
+    let lines = "7 by 7, model 1: decoded, 9 bytes written\n8 by 7, model 1: refused 32, 0 bytes written\n\
+                 header refused 7\n";
+    example_writes("console", lines);
 }
 
 /// A number that the header defines.
