@@ -96,9 +96,9 @@ size_t baizeridge_step_bound(uint32_t height, uint32_t distance, uint32_t model)
  * 0 if it may, else the refusal's number, the first of
  *   1, 2, 31   there is no such shape, whatever the limits
  *   32         a limit is above 15, or the shape is over a limit
- * A caller that takes every shape has the limits 15 and 15, as every other function here. A console with patches up to 7
- * by 7 reads a stream's header, asks baizeridge_allowed(height, distance, model, 7, 7), and decodes the stream if that
- * is 0 (examples/console.c). */
+ * A caller that takes every shape has the limits 15 and 15, as every other function here has. A console with patches up
+ * to 7 by 7 reads a stream's header, asks baizeridge_allowed(height, distance, model, 7, 7), and decodes the stream if
+ * that is 0 (examples/console.c). */
 uint8_t baizeridge_allowed(uint32_t height, uint32_t distance, uint32_t model, uint32_t largest_height,
                            uint32_t largest_distance);
 

@@ -46,7 +46,7 @@ pub fn slot(sheet: &Sheet, depth: usize, edge: usize) -> usize {
 }
 
 impl Image {
-    /// What a refused shape gives.
+    /// What a refused creation gives.
     pub fn nothing() -> Image {
         Image {
             height: 0,

@@ -3,6 +3,7 @@
 use crate::decoder::Stage;
 use crate::decoding::Ran;
 use crate::image::{Entry, Image, NODES, SLOTS};
+use crate::repository;
 use std::sync::OnceLock;
 
 /// The longest script, in bytes.
@@ -181,6 +182,19 @@ impl Player {
 pub fn bare(line: &str) -> &str {
     let line = line.strip_prefix("round").or_else(|| line.strip_prefix("raw")).unwrap_or(line);
     line.rsplit_once(' ').map_or(line, |(rest, _)| rest)
+}
+
+/// Holds what was written to what is expected, line by line.
+pub fn same_lines(written: &str, expected: &str) {
+    for (line, (written, expected)) in written.lines().zip(expected.lines()).enumerate() {
+        assert_eq!(written, expected, "line {}", line + 1);
+    }
+    assert!(written == expected, "one has more lines");
+}
+
+/// What the proved program writes for a script.
+pub fn by_the_program(script: &str) -> String {
+    String::from_utf8(repository::run("replay", script.as_bytes())).expect("its lines are text")
 }
 
 /// What a whole script has written.

@@ -59,11 +59,11 @@ impl Shape {
         Ok(Shape { height, distance, model })
     }
 
-    /// A shape that a caller creates: each limit is from the shape's own number to the largest one.
+    /// A shape that a caller's limits allow: each limit lies between the shape's own number and the largest one.
     pub fn allowed(name: Name, limits: Limits) -> Result<Shape, Stop> {
         let shape = Shape::new(name)?;
-        let mut pairs = name.into_iter().zip(LARGEST_LIMITS).zip(limits);
-        pairs.try_for_each(|((own, largest), limit)| within(limit, own..=largest, 32))?;
+        let ranges = name.into_iter().zip(LARGEST_LIMITS).map(|(own, largest)| own..=largest);
+        limits.into_iter().zip(ranges).try_for_each(|(limit, range)| within(limit, range, 32))?;
         Ok(shape)
     }
 

@@ -1,5 +1,5 @@
 //! What docs/DECISIONS.md says of the source: the functions between crates that ask something of their caller, and the
-//! crates that know of limits.
+//! crates that take limits.
 
 use baizeridge_tests::repository::{root, text};
 use std::collections::BTreeSet;
@@ -54,10 +54,10 @@ fn quoted(words: &str) -> BTreeSet<String> {
 }
 
 #[test]
-fn limits_are_known_where_windows_are_created() {
+fn every_crate_that_takes_limits_is_listed() {
     let all = sources("src/lib.rt").chain(sources("src/main.rt"));
     let found = all.filter(|(_, source)| source.contains("largest_height")).map(|(name, _)| name);
     let decisions = text("docs/DECISIONS.md");
-    let listed = decisions.split("**Limits are known to ").nth(1).and_then(|rest| rest.split("**").next());
+    let listed = decisions.split("**Limits are taken by ").nth(1).and_then(|rest| rest.split("**").next());
     assert_eq!(quoted(listed.expect("the crates are listed")), found.collect());
 }

@@ -3,11 +3,10 @@
 use baizeridge_tests::cases::shapes;
 use baizeridge_tests::decoding::number_of;
 use baizeridge_tests::proved;
-use baizeridge_tests::replay::{self, LONGEST};
-use baizeridge_tests::repository;
+use baizeridge_tests::replay::{self, by_the_program, same_lines, LONGEST};
 use baizeridge_tests::script::open_line;
-use baizeridge_tests::streams::{Limits, Name, Shape, LARGEST_LIMITS};
-use std::collections::BTreeMap;
+use baizeridge_tests::streams::{Limits, Shape, LARGEST_LIMITS};
+use std::collections::{BTreeMap, BTreeSet};
 
 /// Creations of each height and distance among these numbers, of each of these models, for each pair of limits among the
 /// numbers, held to the second implementation's answer; how often each answer came, 0 for a shape that is allowed.
@@ -29,7 +28,7 @@ fn answered(numbers: &[u32], models: &[u32]) -> BTreeMap<u8, usize> {
     times
 }
 
-/// Each answer comes as often as the numbers that the document names for it.
+/// Each answer comes as often as the documents' ranges say.
 #[test]
 fn every_pair_of_limits() {
     let numbers: Vec<u32> = (0..=17).collect();
@@ -51,41 +50,40 @@ fn wild_limits() {
     let numbers = [0, 1, 2, 7, 15, 16, 0x100 + 7, 0x1_0000 + 7, 1 << 31, u32::MAX];
     let times = answered(&numbers, &[0, 1, 2, 0x100, 0x1_0000 + 1, u32::MAX]);
     assert!(times.keys().eq(&[0, 1, 2, 31, 32]));
-    // 1 in 1, 7 and 15, 2 in 2, 7 and 15, and so on.
+    // Heights 1, 2, 7 and 15 and distances 2, 7 and 15, with the limits among them that are not smaller.
     assert_eq!(times[&0], 2 * (4 + 3 + 2 + 1) * (3 + 2 + 1));
 }
 
-/// Limits that allow a shape, and limits that do not.
-fn limits_of(shape: Shape) -> [Vec<Limits>; 2] {
+/// Four pairs of limits that allow a shape, and four that do not.
+fn limits_of(shape: Shape) -> [[Limits; 4]; 2] {
     let [height, distance, _] = shape.name();
-    let [largest_height, largest_distance] = LARGEST_LIMITS;
+    let [most_high, most_wide] = LARGEST_LIMITS;
     [
-        vec![[height, distance], LARGEST_LIMITS, [height, largest_distance], [largest_height, distance]],
-        vec![[height - 1, largest_distance], [largest_height, distance - 1], [largest_height + 1, largest_distance]],
+        [[height, distance], [height, most_wide], [most_high, distance], LARGEST_LIMITS],
+        [[height - 1, most_wide], [most_high, distance - 1], [most_high + 1, most_wide], [most_high, most_wide + 1]],
     ]
 }
 
 /// On the proved program: limits that allow a shape all create one window, the second decoder's, and the others none.
 #[test]
 fn the_program_creates_the_same_window() {
-    let lines =
-        |limits: &[Limits], name: Name| limits.iter().map(|&limits| open_line(name, limits) + "\n").collect::<String>();
-    let script: String =
-        shapes().into_iter().flat_map(|shape| limits_of(shape).map(|limits| lines(&limits, shape.name()))).collect();
+    let creations =
+        |shape: Shape| limits_of(shape).into_iter().flatten().map(move |limits| open_line(shape.name(), limits));
+    let script: String = shapes().into_iter().flat_map(creations).map(|line| line + "\n").collect();
     assert!(script.len() < LONGEST, "{} bytes", script.len());
-    let written = String::from_utf8(repository::run("replay", script.as_bytes())).expect("its lines are text");
-    let expected = replay::replay(&script);
-    written.lines().zip(expected.lines()).zip(script.lines()).for_each(|((written, expected), line)| {
-        assert_eq!(written, expected, "{line}");
-    });
-    assert_eq!(written.lines().count(), script.lines().count());
-    let written: Vec<&str> = written.lines().collect();
-    let mut windows = BTreeMap::new();
-    for (shape, lines) in shapes().into_iter().zip(written.chunks_exact(7)) {
+    let written = by_the_program(&script);
+    same_lines(&written, &replay::replay(&script));
+
+    let lines: Vec<&str> = written.lines().collect();
+    let mut windows = BTreeSet::new();
+    for lines in lines.chunks(8) {
         let (created, refused) = lines.split_at(4);
         assert!(created[0].starts_with("open done ") && created.iter().all(|line| line == &created[0]), "{created:?}");
-        assert!(refused.iter().all(|line| line.starts_with("open refused 32 ") && line == &refused[0]), "{refused:?}");
-        windows.insert(created[0], shape);
+        assert!(
+            refused[0].starts_with("open refused 32 ") && refused.iter().all(|line| line == &refused[0]),
+            "{refused:?}"
+        );
+        windows.insert(created[0]);
     }
-    assert_eq!(windows.len(), shapes().len(), "two shapes have one window");
+    assert_eq!(windows.len(), shapes().len(), "each shape has a window of its own");
 }

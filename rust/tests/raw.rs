@@ -7,8 +7,7 @@ use baizeridge_tests::decoder::{Stage, Window};
 use baizeridge_tests::decoding::Ran;
 use baizeridge_tests::image::{Image, DETECTORS};
 use baizeridge_tests::random::Random;
-use baizeridge_tests::replay::{self, Player, LONGEST};
-use baizeridge_tests::repository;
+use baizeridge_tests::replay::{self, by_the_program, same_lines, Player, LONGEST};
 use baizeridge_tests::script::{plain_list, raw_list};
 use baizeridge_tests::streams::{Shape, LARGEST_LIMITS};
 
@@ -241,12 +240,8 @@ fn the_program_plays_raw_lists() {
     each_case(0x7072_6f68, large.len(), |case, random| {
         let (height, distance, model) = large[case];
         let (shapes, script) = random_script(Shape { height, distance, model }, random);
-        let written = String::from_utf8(repository::run("replay", script.as_bytes())).expect("its lines are text");
-        let expected = replay::replay(&script);
-        for (line, (written, expected)) in written.lines().zip(expected.lines()).enumerate() {
-            assert_eq!(written, expected, "line {}", line + 1);
-        }
-        assert!(written == expected);
+        let written = by_the_program(&script);
+        same_lines(&written, &replay::replay(&script));
         let lists: Vec<Vec<&str>> = written.split("# ").skip(1).map(|part| part.lines().skip(1).collect()).collect();
         assert_eq!(lists.len(), 3 * shapes.len());
         for (shape, lists) in shapes.into_iter().zip(lists.chunks(3)) {

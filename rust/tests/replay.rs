@@ -2,7 +2,8 @@
 //! decoder's. `examples/write_replay.rs` writes both files anew. Further scripts, all cases of each model and random ones, are
 //! played by the program here.
 
-use baizeridge_tests::{replay, repository, script};
+use baizeridge_tests::replay::{self, by_the_program, same_lines};
+use baizeridge_tests::script;
 use std::collections::BTreeSet;
 use std::sync::OnceLock;
 
@@ -31,13 +32,6 @@ fn outputs() -> [&'static str; 5] {
     [STDOUT, cases_of(0), cases_of(1), random_of(0), random_of(1)]
 }
 
-fn compared(written: &str, expected: &str) {
-    for (line, (written, expected)) in written.lines().zip(expected.lines()).enumerate() {
-        assert_eq!(written, expected, "line {}", line + 1);
-    }
-    assert!(written == expected);
-}
-
 #[test]
 fn the_stored_script_is_the_one_written_here() {
     assert!(STDIN == script::script(), "crates/replay/stdin is not the script of src/script.rs");
@@ -45,15 +39,13 @@ fn the_stored_script_is_the_one_written_here() {
 
 #[test]
 fn the_second_decoder_answers_what_is_stored() {
-    compared(&replay::replay(STDIN), STDOUT);
+    same_lines(&replay::replay(STDIN), STDOUT);
 }
 
 /// The proved program on all cases of a model, and on random scripts.
 fn played_by_the_program(model: usize) {
-    let play =
-        |script: String| String::from_utf8(repository::run("replay", script.as_bytes())).expect("its lines are text");
-    compared(&play(script::cases_of(model)), cases_of(model));
-    compared(&play(script::random_of(model, SEED)), random_of(model));
+    same_lines(&by_the_program(&script::cases_of(model)), cases_of(model));
+    same_lines(&by_the_program(&script::random_of(model, SEED)), random_of(model));
 }
 
 #[test]

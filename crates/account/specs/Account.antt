@@ -170,9 +170,6 @@ pub record WindowAccount (s : List ℕ) (sh : Shape) (r : Rounds) : Type 0 where
 
 -- WHICH DECODINGS have an account, whatever their model; s is a list of bytes, each below 256
 pub record Accounts : Type 0 where
-  -- Each begins with the window that a creation of the header's shape gives for the limits 15 and 15, which refuse none.
-  pub begins : (s : List ℕ) (at : ℕ) (sh : Shape) (next : ℕ) → headerAt s at ≡ done sh next
-      → freshCall (ofModel (sh .model)) (sh .height) (sh .distance) (sh .model) maxHeight maxDistance ≡ done (freshWindow (ofModel (sh .model)) sh) 0
   -- Of any bytes, into a buffer of any size, however it ends, if anything was written;
   pub account : (s : List ℕ) (size : ℕ) → Bytes s → 0 < length (decoded s size .output) → Account s (decoded s size)
   -- and something was, if it finished.
@@ -180,3 +177,7 @@ pub record Accounts : Type 0 where
   -- Of any bytes that begin with a header, decoded in pieces by the model in it.
   pub pieces : (s : List ℕ) (size n : ℕ) → Bytes s → (sh : Shape) (next : ℕ) → headerAt s 0 ≡ done sh next
       → WindowAccount s sh (resumedFrom (ofModel (sh .model)) s size n (freshWindow (ofModel (sh .model)) sh) next (length (header sh)))
+  -- Each begins with the fresh window of the header's shape, which a creation for the limits 15 and 15 gives.
+  pub begins : (s : List ℕ) (size : ℕ) (sh : Shape) (next : ℕ) → headerAt s 0 ≡ done sh next → length (header sh) ≤ size
+      → (decoded s size ≡ behind (header sh) (rounds (ofModel (sh .model)) s size (freshWindow (ofModel (sh .model)) sh) next (length (header sh))))
+      × (freshCall (ofModel (sh .model)) (sh .height) (sh .distance) (sh .model) maxHeight maxDistance ≡ done (freshWindow (ofModel (sh .model)) sh) 0)

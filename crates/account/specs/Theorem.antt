@@ -4,6 +4,7 @@ use native.Mathlib.Omega.{arith}
 use mathlib.Core.Path.{_≡_, refl, sym, _∙_, ap, subst}
 use mathlib.Core.Bool.{Bool, true, false}
 use mathlib.Core.List.{List, [], _++_, append-assoc, append-nil}
+use borrow.Author.Tests.{le-leb}
 use lib.Dec.{leb}
 use lib.ListN.{length, drop, length-append}
 use lib.Seq.{drop-length}
@@ -182,8 +183,8 @@ module _ (s : List ℕ) (size : ℕ) (b : Bytes s) where
 pub accounts : Accounts
 accounts =
     record {
-      begins = λ s at sh next e. created (table sh) sh (header-made s at sh next e .range);
       account = once;
       finishes = written;
       pieces = λ s size n b sh next e. in-pieces s size b n sh next e;
+      begins = λ s size sh next e l. (decoded-on s size sh next e (le-leb (length (header sh)) size l), created (table sh) sh (header-made s 0 sh next e .range));
     }

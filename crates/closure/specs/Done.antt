@@ -1,6 +1,6 @@
 -- A CALL: what it leaves of a window; and if it is done, the tests that it has passed and what it gives. Assumes nothing.
 use Prim.Native.Nat.{ℕ}
-use mathlib.Core.Path.{_≡_, refl, _∙_, ap}
+use mathlib.Core.Path.{_≡_, refl}
 use mathlib.Core.Bool.{Bool, true}
 use mathlib.Core.List.{List, []}
 use borrow.Author.Tests.{eqb-true}

@@ -1,6 +1,6 @@
 -- What the answer of a creation tells of its shape and its limits. Assumes nothing.
 use Prim.Native.Nat.{ℕ}
-use mathlib.Core.Path.{_≡_, refl, sym, _∙_, ap}
+use mathlib.Core.Path.{_≡_, refl, _∙_, ap}
 use mathlib.Core.Bool.{Bool, true, false}
 use mathlib.Core.List.{List, [], _∷_}
 use lib.Dec.{leb}
@@ -16,20 +16,15 @@ module _ (h d m largestHeight largestDistance : ℕ) where
   abbrev limitsTest : List (Bool × ℕ)
   limitsTest = (limitsAllow h d largestHeight largestDistance, 32) ∷ []
 
-  -- A SHAPE THAT IS ALLOWED is a shape, the named one, and the limits allow it
+  -- A SHAPE THAT IS ALLOWED is one, and the named one
   pub record Allowed (sh : Shape) : Type 0 where
     pub range : IsShape (shapeBy h d m)
-    pub limits : limitsAllow h d largestHeight largestDistance ≡ true
     pub same : shapeBy h d m ≡ sh
 
   pub allowed-is : (sh : Shape) (n : ℕ) → allowedShape h d m largestHeight largestDistance ≡ done sh n → Allowed sh
   allowed-is sh n e =
       let x = done-holds (creationTests h d m largestHeight largestDistance) (done (shapeBy h d m) 0) sh n e in
-      record {
-        range = record { sizes = both _ _ (x .0 .0) (x .0 .1 .0); model = x .0 .1 .1 .0 };
-        limits = x .0 .1 .1 .1 .0;
-        same = tests-done [] (shapeBy h d m) sh 0 n (x .1);
-      }
+      record { range = record { sizes = both _ _ (x .0 .0) (x .0 .1 .0); model = x .0 .1 .1 .0 }; same = tests-done [] (shapeBy h d m) sh 0 n (x .1) }
 
   -- BY THE SHAPE'S OWN TESTS: what they refuse is refused so, whatever the limits;
   pub shape-first : (a : Answer Shape) → isDone a ≡ false → shapeOf h d m ≡ a → allowedShape h d m largestHeight largestDistance ≡ a

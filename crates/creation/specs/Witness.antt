@@ -5,7 +5,7 @@ use Rattle.shape.specs.Sizes.{shapeBy}
 use Rattle.creation.specs.Creation.{allowedShape}
 
 pub record Witness : Type 0 where
-  -- the rack's limits, the console's, and limits as tight as they can be
+  -- the rack's limits, the console's, and the smallest that allow a shape
   pub rack : allowedShape 15 15 1 15 15 ≡ done (shapeBy 15 15 1) 0
   pub console : allowedShape 7 7 0 7 7 ≡ done (shapeBy 7 7 0) 0
   pub smallest : allowedShape 1 2 0 1 2 ≡ done (shapeBy 1 2 0) 0
@@ -15,10 +15,10 @@ pub record Witness : Type 0 where
   -- limits that forbid every shape
   pub no-height : allowedShape 1 2 0 0 15 ≡ refused 32
   pub no-distance : allowedShape 1 2 0 15 1 ≡ refused 32
-  -- a limit above 15, whatever the shape
+  -- a limit above 15
   pub limit-height-16 : allowedShape 3 3 0 16 15 ≡ refused 32
   pub limit-distance-16 : allowedShape 3 3 0 15 16 ≡ refused 32
-  -- 1, 2 and 31 come first, whatever the limits
+  -- 1, 2 and 31 come first
   pub height-first : allowedShape 16 3 2 16 0 ≡ refused 1
   pub distance-first : allowedShape 3 16 2 0 16 ≡ refused 2
   pub model-first : allowedShape 8 7 2 7 7 ≡ refused 31

@@ -16,7 +16,7 @@ ghost use Rattle.steps.specs.Models.{ofModel};
 ghost use Rattle.window.specs.Fresh.{freshWindow, noWindow};
 ghost use Rattle.window.specs.Calls.{callAnswer, given, freshLeaves};
 
-// What stands where a shape is refused.
+// What stands where a creation is refused.
 fn no_window() -> Window
     ensures { λ r. ⌜ r ≡ noWindow ⌝ }
 {

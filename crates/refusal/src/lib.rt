@@ -33,7 +33,7 @@ pub enum Refusal {
     LastRound,
     // The noise model is not 0 or 1.
     Model,
-    // A limit of the caller's is above 15, or the shape is over the limits.
+    // A limit of the caller's is above 15, or the shape is over a limit.
     Limit,
 }
 

@@ -27,7 +27,7 @@ use Rattle.record.specs.Records.{header, headerAt}
 use Rattle.record.specs.declared.HeaderRead.{HeaderRead}
 use Rattle.record.specs.declared.HeaderRead.the-variants as headerRead
 use Rattle.window.specs.Fresh.{freshWindow}
-use Rattle.decoding.specs.Decoding.{Line, turnedBack, Rounds, rounds, Decoded, behind, decoded}
+use Rattle.decoding.specs.Decoding.{Line, turnedBack, Rounds, rounds, Decoded, decoded}
 use Rattle.decoding.specs.Answers.{RoundsReturned, roundsReturned, decodeReturned, outputLeaves, decodeLeaves}
 use Rattle.decoding.specs.LawsDecoding.{decoded-turned, decoded-full, decoded-on}
 use Rattle.one_record.proofs.Writers.{writer-full, writer-wrote}

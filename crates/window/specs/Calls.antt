@@ -46,6 +46,7 @@ unfoldable pub freshCall : Table → (height distance model largestHeight larges
 freshCall T height distance model largestHeight largestDistance =
     andThen (allowedShape height distance model largestHeight largestDistance) (λ sh n. done (freshWindow T sh) n)
 
+-- what it leaves: no window where it is refused
 abbrev pub freshLeaves : Table → (height distance model largestHeight largestDistance : ℕ) → Answered (Unit {0})
 freshLeaves T height distance model largestHeight largestDistance = leaves (freshCall T height distance model largestHeight largestDistance) itself noWindow
 

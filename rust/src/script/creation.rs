@@ -8,13 +8,13 @@ use crate::streams::{Limits, Name, LARGEST_LIMITS};
 const SHAPES: [[u32; 2]; 11] =
     [[0, 3], [16, 3], [1, 1], [1, 16], [0, 0], [16, 16], [257, 3], [3, 258], [u32::MAX, u32::MAX], [1, 2], [15, 15]];
 
-/// Models that there are not, and 1 or 2 before them.
-const MODELS: [Name; 9] =
+/// With models that there are not; some are refused 1 or 2.
+const OTHER_MODELS: [Name; 9] =
     [[1, 3, 2], [1, 3, 255], [1, 3, 256], [1, 3, 257], [1, 3, u32::MAX], [15, 15, 2], [0, 3, 2], [1, 1, 2], [0, 1, 2]];
 
-/// A console's limits, and tighter ones; over one or both; limits that forbid every shape; above 15, to numbers of 32 bits;
-/// and 1, 2 and 31 before them.
-const LIMITS: [(Name, Limits); 17] = [
+/// For a console's limits, and for the smallest that allow the shape; over one limit or both; limits that forbid every
+/// shape; above 15, to numbers of 32 bits; and 1, 2 and 31 before them.
+const LIMITED: [(Name, Limits); 17] = [
     ([7, 7, 0], [7, 7]),
     ([1, 2, 1], [1, 2]),
     ([8, 7, 1], [7, 7]),
@@ -55,9 +55,9 @@ impl Script {
             self.create([height, distance, model], LARGEST_LIMITS);
         }
         self.add("# models that there are not: 1 and 2 come first");
-        MODELS.into_iter().for_each(|name| _ = self.create(name, LARGEST_LIMITS));
+        OTHER_MODELS.into_iter().for_each(|name| _ = self.create(name, LARGEST_LIMITS));
         self.add("# limits: 1, 2 and 31 come first");
-        LIMITS.into_iter().for_each(|(name, limits)| _ = self.create(name, limits));
+        LIMITED.into_iter().for_each(|(name, limits)| _ = self.create(name, limits));
         self.add("# what a refused creation gives is no window");
         for (name, limits) in [([0, 3, 1], LARGEST_LIMITS), ([3, 3, 2], LARGEST_LIMITS), ([3, 3, 0], [3, 2])] {
             self.create(name, limits);
