@@ -12,16 +12,16 @@ use Rattle.shape.specs.Sizes.{maxHeight, maxDistance, IsShape, shapeTests, shap
 use Rattle.shape.specs.declared.Shape.{Shape}
 use Rattle.creation.specs.Creation.{limitsAllow, creationTests, allowedShape}
 
+-- A SHAPE THAT IS ALLOWED is one, and the named one
+pub record Allowed (h d m : ℕ) (sh : Shape) : Type 0 where
+  pub range : IsShape (shapeBy h d m)
+  pub same : shapeBy h d m ≡ sh
+
 module _ (h d m largestHeight largestDistance : ℕ) where
   abbrev limitsTest : List (Bool × ℕ)
   limitsTest = (limitsAllow h d largestHeight largestDistance, 32) ∷ []
 
-  -- A SHAPE THAT IS ALLOWED is one, and the named one
-  pub record Allowed (sh : Shape) : Type 0 where
-    pub range : IsShape (shapeBy h d m)
-    pub same : shapeBy h d m ≡ sh
-
-  pub allowed-is : (sh : Shape) (n : ℕ) → allowedShape h d m largestHeight largestDistance ≡ done sh n → Allowed sh
+  pub allowed-is : (sh : Shape) (n : ℕ) → allowedShape h d m largestHeight largestDistance ≡ done sh n → Allowed h d m sh
   allowed-is sh n e =
       let x = done-holds (creationTests h d m largestHeight largestDistance) (done (shapeBy h d m) 0) sh n e in
       record { range = record { sizes = both _ _ (x .0 .0) (x .0 .1 .0); model = x .0 .1 .1 .0 }; same = tests-done [] (shapeBy h d m) sh 0 n (x .1) }

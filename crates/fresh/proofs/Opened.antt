@@ -41,7 +41,7 @@ module _ (h d m largestHeight largestDistance : ℕ) (r : Shaped) (made : shapeA
       ))
 
   -- a shape that was made is the named one, and in range
-  made-of : (sh : Shape) → r ≡ shaped.Shape sh → Allowed h d m largestHeight largestDistance sh
+  made-of : (sh : Shape) → r ≡ shaped.Shape sh → Allowed h d m sh
   made-of sh z = allowed-is h d m largestHeight largestDistance sh 0 (sym made ∙ ap shapeAnswer z)
 
   pub shape-ranged : (sh : Shape) → r ≡ shaped.Shape sh → inRange (sh .height) (sh .distance) ≡ true

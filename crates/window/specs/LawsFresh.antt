@@ -16,20 +16,17 @@ use Rattle.window.specs.Fresh.{freshWindow, noWindow}
 use Rattle.window.specs.Calls.{Answered, leaves, freshCall}
 use Rattle.window.specs.declared.Window.{Window}
 
-pub record Started (T : Table) (height distance model largestHeight largestDistance : ℕ) (w : Window) : Type 0 where
+pub record Started (T : Table) (height distance model : ℕ) (w : Window) : Type 0 where
   pub range : IsShape (shapeBy height distance model)
   pub value : freshWindow T (shapeBy height distance model) ≡ w
 
 pub started : (T : Table) (h d m largestHeight largestDistance : ℕ) (w : Window) (n : ℕ) → freshCall T h d m largestHeight largestDistance ≡ done w n
-    → Started T h d m largestHeight largestDistance w
+    → Started T h d m w
 unfolding freshCall
 started T h d m largestHeight largestDistance w n e =
     let x = went (allowedShape h d m largestHeight largestDistance) (λ sh m. done (freshWindow T sh) m) w n e in
     let a = allowed-is h d m largestHeight largestDistance (x .value) (x .next) (x .before) in
-    record {
-      range = a .range;
-      value = ap (λ (sh : Shape). freshWindow T sh) (a .same) ∙ tests-done [] (freshWindow T (x .value)) w (x .next) n (x .after);
-    }
+    record { range = a .range; value = ap (λ (sh : Shape). freshWindow T sh) (a .same) ∙ tests-done [] (freshWindow T (x .value)) w (x .next) n (x .after) }
 
 -- FOR THE LARGEST LIMITS: the shape's own tests decide,
 pub by-shape : (T : Table) (h d m : ℕ) → freshCall T h d m maxHeight maxDistance ≡ andThen (shapeOf h d m) (λ sh n. done (freshWindow T sh) n)
