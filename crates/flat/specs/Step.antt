@@ -20,9 +20,9 @@ named list (suc c) x = named list c x || eqb (list c) x
 abbrev pub listAt : List ℕ → ℕ → ℕ → ℕ
 listAt lists from i = getD lists (from + i) 0
 
--- the list of live nodes, behind the two work lists
-abbrev pub liveAt : List ℕ → ℕ → ℕ
-liveAt lists = listAt lists 9216
+-- the list of active nodes, behind the two work lists
+abbrev pub activeAt : List ℕ → ℕ → ℕ
+activeAt lists = listAt lists 9216
 
 -- every entry of the list is a node's
 abbrev pub Places : ℕ → ℕ → (ℕ → ℕ) → Type 0

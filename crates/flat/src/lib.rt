@@ -36,10 +36,10 @@ pub const FRESH: usize = PLANE;
 
 pub const PLACES: usize = FRESH + 1536;
 
-// Two work lists, and from LIVE on the live nodes.
+// Two work lists, and from ACTIVE on the active nodes.
 pub const LISTS: usize = 3 * PLANE;
 
-pub const LIVE: usize = 2 * PLANE;
+pub const ACTIVE: usize = 2 * PLANE;
 
 // A mark that is reset.
 pub const RESET: u16 = 65535;

@@ -1,135 +1,257 @@
--- Laws of grow by entries: what is read of an edge and of a node after it, and the turns of its loops. Assumes nothing.
-use Prim.Native.Nat.{ℕ, _+_, _-_, _*_, _/_, _%_, _≤_, _<_, min}
+-- Laws of grow by entries: halves that an edge gains, one node's edge in a direction, and the turns of the loops. Assumes nothing.
+use Prim.Native.Nat.{ℕ, zero, suc, _+_, _*_, _/_, _≤_, _<_, min}
+use native.Mathlib.Numerals.{add-one}
 use native.Mathlib.Omega.{arith}
-use mathlib.Core.Path.{_≡_, refl, ap, sym, _∙_}
+use mathlib.Core.Path.{_≡_, refl, ap, ap₂, sym, _∙_, subst}
 use mathlib.Core.Bool.{Bool, true, false}
 use mathlib.Core.List.{List}
-use mathlib.Core.Logic.{_⊎_, ⊎-elim}
-use borrow.Author.Tests.{eqb-true, eqb-false}
+use borrow.Author.Tests.{eqb-true, eqb-false, eq-eqb, ne-eqb}
 use lib.Dec.{eqb}
-use lib.ListN.{length, getD, set}
-use Rattle.shape.specs.Choice.{if, whether, order}
+use lib.ListN.{length, getD, set, length-set}
+use lib.Seq.{getD-set-same, getD-set-other}
+use Rattle.refusal.specs.Laws.{undone}
+use Rattle.shape.specs.Choice.{if, if-true, if-false, whether}
 use Rattle.window.specs.Lists.{bit}
-use Rattle.flat.specs.Codes.{activeOf, defectOf, unrootedOf, pointerOf, growthOf, correctionOf, noEdge}
-use Rattle.flat.specs.Entries.{plane, planes, cell, within, overBy}
-use Rattle.flat.specs.LawsEntries.{inside, outside}
-use Rattle.flat.specs.Plan.{Plan}
-use Rattle.flat.specs.Rule.{growthAfter}
-use Rattle.flat.specs.Stored.{stored, place-next, stored-at, stored-before, stored-behind, length-stored}
-use Rattle.growing.specs.Grown.{gained, cutNode, cutMark, Grew, gainedAt}
+use Rattle.flat.specs.Codes.{growthOf, correctionOf, noEdge}
+use Rattle.flat.specs.Entries.{planes, within, overBy}
+use Rattle.flat.specs.Bounds.{edge-low, node-low}
+use Rattle.flat.specs.LawsEntries.{inside}
+use Rattle.flat.specs.Plan.{Plan, planOf, Safe}
+use Rattle.flat.specs.Step.{named, listAt}
+use Rattle.flat.specs.declared.Sizes.{Sizes}
+use Rattle.queue.specs.Queue.{Queue, Extends, Pushed}
+use Rattle.queue.specs.LawsNamed.{extends-none, extends-named, extends-on}
+use Rattle.growing.specs.Grown.{raised, hitsIn, edgesOf, hitsOf, Leads, Opener, Raised}
 
--- AN EDGE
+-- AN EDGE'S HALVES
 
-pub growth-most : (v : ℕ) (a b : Bool) → growthAfter (growthOf v) a b ≤ 3
-growth-most v a b = whether (eqb (growthOf v) noEdge) (λ t. rw t (omega arith)) (λ t. rw t (omega arith))
+module _ (v h : ℕ) where
+  there : (growthOf v ≡ 3 → ⊥) → raised v h ≡ 4 * (v / 4) + min 2 (growthOf v + h)
+  there n = ap (λ (g : ℕ). 4 * (v / 4) + g) (if-false (eqb (growthOf v) noEdge) (growthOf v) (min 2 (growthOf v + h)) (ne-eqb (growthOf v) noEdge n))
 
-pub gained-growth : (v : ℕ) (a b : Bool) → growthOf (gained v a b) ≡ growthAfter (growthOf v) a b
-gained-growth v a b = omega (arith, growth-most v a b)
+  none : growthOf v ≡ 3 → raised v h ≡ 4 * (v / 4) + 3
+  none e = ap (λ (g : ℕ). 4 * (v / 4) + g) (if-true (eqb (growthOf v) noEdge) (growthOf v) (min 2 (growthOf v + h)) (eq-eqb (growthOf v) noEdge e) ∙ e)
 
-pub gained-correction : (v : ℕ) (a b : Bool) → correctionOf (gained v a b) ≡ correctionOf v
-gained-correction v a b = let e : gained v a b / 4 ≡ v / 4 = omega (arith, growth-most v a b) in rw e
+  abbrev Cases : Type 0 → Type 0
+  Cases A = (growthOf v ≡ 3 → raised v h ≡ 4 * (v / 4) + 3 → A) → ((growthOf v ≡ 3 → ⊥) → raised v h ≡ 4 * (v / 4) + min 2 (growthOf v + h) → A) → A
 
-odd : (v : ℕ) → v % 2 ≡ bit (activeOf v)
-odd v = whether (activeOf v) (λ t. rw t (eqb-true _ _ t)) (λ t. rw t (let n = eqb-false (v % 2) 1 t in low (v % 2) n (omega arith)))
-  where
-    low : (x : ℕ) → (x ≡ 1 → ⊥) → x < 2 → x ≡ 0
-    low x n l = omega arith
+  by-cases : {A : Type 0} → Cases A
+  by-cases f g = whether (eqb (growthOf v) 3) (λ t. let e = eqb-true _ _ t in f e (none e)) (λ t. let n = eqb-false _ _ t in g n (there n))
 
-pub gain-is : (v here other sum t : ℕ) → sum ≡ min 2 (v % 4 + here % 2 + other % 2) → t ≡ if (eqb (v % 4) 3) (v % 4) sum → t ≡ growthAfter (growthOf v) (activeOf here) (activeOf other)
-gain-is v here other sum t p q = q ∙ ap (λ (s : ℕ). if (eqb (v % 4) 3) (v % 4) s) (p ∙ ap (λ (s : ℕ). min 2 (v % 4 + s + other % 2)) (odd here) ∙ ap (λ (s : ℕ). min 2 (v % 4 + bit (activeOf here) + s)) (odd other))
+  pub raised-growth : growthOf (raised v h) ≡ if (eqb (growthOf v) noEdge) (growthOf v) (min 2 (growthOf v + h))
+  raised-growth = whether (eqb (growthOf v) 3) (λ t. let e = eqb-true (growthOf v) 3 t in rw t (omega arith)) (λ t. rw t (omega arith))
 
--- A NODE THAT IS CUT: what stays of it
-module _ (v : ℕ) where
-  pub kept-active : activeOf (v % 8) ≡ activeOf v
-  kept-active = let e : v % 8 % 2 ≡ v % 2 = omega arith in rw e
+  raised-same : raised v h / 4 ≡ v / 4
+  raised-same = by-cases (λ e r. omega arith) (λ n r. omega arith)
 
-  pub kept-defect : defectOf (v % 8) ≡ defectOf v
-  kept-defect = let e : v % 8 / 2 % 2 ≡ v / 2 % 2 = omega arith in rw e
+  pub raised-correction : correctionOf (raised v h) ≡ correctionOf v
+  raised-correction = ap (λ (x : ℕ). eqb x 1) raised-same
 
-  pub kept-unrooted : unrootedOf (v % 8) ≡ unrootedOf v
-  kept-unrooted = let e : v % 8 / 4 % 2 ≡ v / 4 % 2 = omega arith in rw e
+  -- a full edge, and no edge
+  pub raised-full : 2 ≤ growthOf v → raised v h ≡ v
+  raised-full l = by-cases (λ e r. omega arith) (λ n r. omega arith)
 
-  pub cut-pointer : pointerOf (v % 8) ≡ 0
-  cut-pointer = omega arith
+  pub raised-none : eqb (growthOf (raised v h)) noEdge ≡ eqb (growthOf v) noEdge
+  raised-none =
+      by-cases (λ e r. let a : growthOf (raised v h) ≡ 3 = omega arith in ap (λ (x : ℕ). eqb x 3) (a ∙ sym e))
+      (λ n r. let a : growthOf (raised v h) ≤ 2 = omega arith in ne-eqb (growthOf (raised v h)) 3 (λ (e : growthOf (raised v h) ≡ 3). omega arith) ∙ sym (ne-eqb (growthOf v) 3 n))
 
--- BOTTOM NODES: a turn over both arrays
-module _ (table nodes marks : List ℕ) (b i at : ℕ) (now : List ℕ) where
-  abbrev falls : ℕ → Bool
-  falls p = eqb (getD table (128 + p) 0) 1
+pub raised-zero : (v : ℕ) → raised v 0 ≡ v
+raised-zero v = by-cases v 0 (λ e r. omega arith) (λ n r. omega arith)
 
-  abbrev node : ℕ → ℕ
-  node j = cutNode falls (getD nodes (b + j) 0)
+pub raised-one : (v : ℕ) → growthOf v < 2 → raised v 1 ≡ v + 1
+raised-one v l = by-cases v 1 (λ e r. absurd (omega arith)) (λ n r. omega arith)
 
-  abbrev mark : ℕ → ℕ
-  mark j = cutMark falls (getD nodes (b + j) 0) (getD marks (b + j) 0)
+pub raised-sum : (v a b : ℕ) → raised (raised v a) b ≡ raised v (a + b)
+raised-sum v a b =
+    by-cases v a
+    (λ e r. by-cases (raised v a) b (λ e' r'. by-cases v (a + b) (λ x y. omega arith) (λ x y. absurd (x e))) (λ n' r'. absurd (omega arith)))
+    (λ n r. by-cases (raised v a) b (λ e' r'. absurd (omega arith)) (λ n' r'. by-cases v (a + b) (λ x y. absurd (n x)) (λ x y. omega arith)))
 
-  module _ (p : now ≡ stored b node i nodes) (told : at ≡ 128 + getD now (b + i) 0 / 8) where
-    pub cut-node-next : (v : ℕ) → v ≡ if (eqb (getD table at 0) 1) (getD now (b + i) 0 % 8) (getD now (b + i) 0) → set now (b + i) v ≡ stored b node (i + 1) nodes
-    cut-node-next v q = place-next b (λ j w. cutNode falls w) 0 nodes i now v p (q ∙ ap (λ (y : ℕ). if (eqb (getD table y 0) 1) (getD now (b + i) 0 % 8) (getD now (b + i) 0)) told)
+-- HOW OFTEN
 
-    pub cut-mark-next : (old : List ℕ) (v : ℕ) → old ≡ stored b mark i marks → v ≡ if (eqb (getD table at 0) 1) 65535 (getD old (b + i) 0) → set old (b + i) v ≡ stored b mark (i + 1) marks
-    cut-mark-next old v m q =
-        let e : at ≡ 128 + getD nodes (b + i) 0 / 8 = told ∙ ap (λ (l : List ℕ). 128 + getD l (b + i) 0 / 8) p ∙ ap (λ (w : ℕ). 128 + w / 8) (stored-behind b node i nodes 0 (b + i) (omega arith)) in
-        place-next b (λ j w. cutMark falls (getD nodes (b + j) 0) w) 0 marks i old v m (q ∙ ap (λ (y : ℕ). if (eqb (getD table y 0) 1) 65535 (getD old (b + i) 0)) e)
+module _ (place : ℕ → ℕ) (c e : ℕ) where
+  pub hits-more : hitsIn place (c + 1) e ≡ hitsIn place c e + bit (eqb (place c) e)
+  unfolding hitsIn
+  hits-more = rw (add-one c)
 
--- ALL KINDS
+pub hits-none : (place : ℕ → ℕ) (e : ℕ) → 0 ≡ hitsIn place 0 e
+unfolding hitsIn
+hits-none place e = refl
 
-module _ (P : Plan) (n : ℕ) (nodes edges : List ℕ) where
-  pub grew-none : Grew P 0 n nodes edges edges
-  grew-none = record { long = refl; gains = λ kind x l w. absurd (omega arith); margin = λ kind x l w. refl; behind = λ e l. refl }
+pub hits-same : (place place' : ℕ → ℕ) (c e e' : ℕ) → ((i : ℕ) → i < c → eqb (place i) e ≡ eqb (place' i) e') → hitsIn place c e ≡ hitsIn place' c e'
+unfolding hitsIn
+hits-same place place' zero e e' q = refl
+hits-same place place' (suc c) e e' q = ap₂ (λ (a : ℕ) (b : Bool). a + bit b) (hits-same place place' c e e' (λ i l. q i (omega arith))) (q c (omega arith))
 
-  module _ (kind : ℕ) (now next : List ℕ) where
-    abbrev b : ℕ
-    b = kind * 4608 + 512
+module _ (P : Plan) (list : ℕ → ℕ) (listed : ℕ) where
+  pub all-more : (k e : ℕ) → hitsOf P list listed (k + 1) e ≡ hitsOf P list listed k e + hitsIn (edgesOf P list k) listed e
+  unfolding hitsOf
+  all-more k e = rw (add-one k)
 
-    abbrev new : ℕ → ℕ
-    new i = gained (getD now (kind * 4608 + 512 + i) 0) (activeOf (getD nodes (512 + i) 0)) (activeOf (getD nodes (i + P .off (P .namer kind)) 0))
+  pub all-none : (e : ℕ) → 0 ≡ hitsOf P list listed 0 e
+  unfolding hitsOf
+  all-none e = refl
 
-    module _ (size : length edges ≡ planes) (low : kind < 6) (small : n ≤ 3600) (G : Grew P kind n nodes edges now) (e : next ≡ stored b new n now) where
-      at : (x : ℕ) → getD next x 0 ≡ getD (stored b new n now) x 0
-      at x = ap (λ (l : List ℕ). getD l x 0) e
+-- EDGES ONE AFTER THE OTHER
 
-      here : (x : ℕ) → 512 ≤ x → x < 512 + n → getD next (cell kind x) 0 ≡ gainedAt P kind n nodes edges kind x
-      here x lo hi =
-          let i = x - 512 in
-          let c : cell kind x ≡ b + i = omega arith in
-          let c' : kind * 4608 + 512 + i ≡ cell kind x = omega arith in
-          let x' : 512 + i ≡ x = omega arith in
-          let o : i + P .off (P .namer kind) ≡ overBy x (P .off (P .namer kind)) = omega arith in
-          let long = G .long in
-          at (cell kind x)
-          ∙ ap (λ (y : ℕ). getD (stored b new n now) y 0) c
-          ∙ stored-at b new n now 0 i (omega arith) (omega arith)
-          ∙ (rw (c', x', o, G .behind (cell kind x) (omega arith)))
+module _ (P : Plan) (n : ℕ) where
+  pub raised-start : (hits : ℕ → ℕ) → ((e : ℕ) → 0 ≡ hits e) → (edges : List ℕ) (count : ℕ) (lists : List ℕ) (queued : List Bool) → Queue 0 count lists queued
+      → Raised P n hits edges edges count count lists lists queued
+  raised-start hits z edges count lists queued q =
+      record {
+        long = refl;
+        gains = λ e l. sym (ap (raised (getD edges e 0)) (sym (z e)) ∙ raised-zero (getD edges e 0));
+        queue = q;
+        extends = extends-none 0 count lists;
+        places = λ p. p;
+        opened = λ e l f t. absurd (undone (sym t ∙ f));
+      }
 
-      before : (x : ℕ) → x < b → getD next x 0 ≡ getD now x 0
-      before x l = at x ∙ stored-before b new n now 0 x l
+  still : (count more : ℕ) (old lists : List ℕ) → Extends 0 count more old lists → (e : ℕ) → Opener P n count old e → Opener P n more lists e
+  still count more old lists x e o =
+      let s = extends-named 0 count more old lists x in
+      record { node = o .node; way = o .way; inside = o .inside; low = o .low; edge = o .edge; here = s (o .node) (o .here); there = s (overBy (o .node) (P .off (o .way))) (o .there) }
 
-      past : (x : ℕ) → b + n ≤ x → getD next x 0 ≡ getD now x 0
-      past x l = at x ∙ stored-behind b new n now 0 x l
+  raised-on : (hits hits' hits'' : ℕ → ℕ) (edges edges' edges'' : List ℕ) (count more most : ℕ) (old lists lists' : List ℕ) (queued queued' : List Bool)
+      → ((e : ℕ) → hits'' e ≡ hits e + hits' e) → Raised P n hits edges edges' count more old lists queued → Raised P n hits' edges' edges'' more most lists lists' queued'
+      → Raised P n hits'' edges edges'' count most old lists' queued'
+  raised-on hits hits' hits'' edges edges' edges'' count more most old lists lists' queued queued' q R S =
+      record {
+        long = S .long ∙ R .long;
+        gains = λ e l. S .gains e l ∙ ap (λ (v : ℕ). raised v (hits' e)) (R .gains e l) ∙ raised-sum (getD edges e 0) (hits e) (hits' e) ∙ ap (raised (getD edges e 0)) (sym (q e));
+        queue = S .queue;
+        extends = extends-on 0 count more old lists (R .extends) most lists' (S .extends);
+        places = λ p. S .places (R .places p);
+        opened = λ e l f t.
+            whether (eqb (growthOf (getD edges' e 0)) 2)
+            (λ u. still more most lists lists' (S .extends) e (R .opened e l f u))
+            (λ u. S .opened e l u t);
+      }
 
-      stays : (κ x : ℕ) → x < plane → within n x ≡ false → getD next (cell κ x) 0 ≡ getD now (cell κ x) 0
-      stays κ x l w =
-          ⊎-elim
-          (λ y. before (cell κ x) (omega arith))
-          (λ y. ⊎-elim (λ u. ⊎-elim (λ v. before (cell κ x) (omega arith)) (λ v. past (cell κ x) (omega arith)) (outside n x w)) (λ u. past (cell κ x) (omega arith)) (order κ (kind + 1)))
-          (order κ kind)
+  -- where an edge is stays
+  pub leads-on : (hits : ℕ → ℕ) (edges edges' : List ℕ) (count more : ℕ) (old lists : List ℕ) (queued : List Bool) → ((x k : ℕ) → within n x ≡ true → k < P .dirs → overBy x (P .slot k) < planes)
+      → Raised P n hits edges edges' count more old lists queued → Leads P n (λ e. growthOf (getD edges e 0)) → Leads P n (λ e. growthOf (getD edges' e 0))
+  leads-on hits edges edges' count more old lists queued low R L x k w l f =
+      let e = overBy x (P .slot k) in
+      L x k w l (sym (raised-none (getD edges e 0) (hits e)) ∙ ap (λ (v : ℕ). eqb (growthOf v) noEdge) (sym (R .gains e (low x k w l))) ∙ f)
 
-      gains : (κ x : ℕ) → κ < kind + 1 → within n x ≡ true → getD next (cell κ x) 0 ≡ gainedAt P kind n nodes edges κ x
-      gains κ x l w =
-          let r = inside n x w in
-          let lo = r .0 in
-          let hi = r .1 in
-          ⊎-elim
-          (λ y. before (cell κ x) (omega arith) ∙ G .gains κ x y w)
-          (λ y. let q : κ ≡ kind = omega arith in ap (λ (c : ℕ). getD next (cell c x) 0) q ∙ here x lo hi ∙ ap (λ (c : ℕ). gainedAt P kind n nodes edges c x) (sym q))
-          (order κ kind)
+-- ONE NODE'S EDGE in a direction
 
-      pub grew-next : Grew P (kind + 1) n nodes edges next
-      grew-next =
-          record {
-            long = ap length e ∙ length-stored b new n now ∙ G .long;
-            gains = gains;
-            margin = λ κ x l w. stays κ x l w ∙ G .margin κ x l w;
-            behind = λ x l. past x (omega arith) ∙ G .behind x (omega arith);
-          }
+module _ (P : Plan) (n x k : ℕ) (edges : List ℕ) (count : ℕ) (old : List ℕ) (queued : List Bool) (size : length edges ≡ planes) (q : Queue 0 count old queued)
+    (e : ℕ) (pe : e ≡ overBy x (P .slot k)) (low : e < planes) (t : ℕ) (pt : t ≡ growthOf (getD edges e 0)) where
+  abbrev hit : ℕ → ℕ
+  hit c = bit (eqb (overBy x (P .slot k)) c)
+
+  abbrev v : ℕ
+  v = getD edges e 0
+
+  hit-here : hit e ≡ 1
+  hit-here = ap bit (eq-eqb _ _ (sym pe))
+
+  hit-else : (c : ℕ) → (c ≡ e → ⊥) → hit c ≡ 0
+  hit-else c d = ap bit (ne-eqb _ _ (λ s. d (sym s ∙ sym pe)))
+
+  -- at the edge and elsewhere
+  at-all : (edges' : List ℕ) → getD edges' e 0 ≡ raised v 1 → ((c : ℕ) → (c ≡ e → ⊥) → getD edges' c 0 ≡ getD edges c 0) → (c : ℕ) → getD edges' c 0 ≡ raised (getD edges c 0) (hit c)
+  at-all edges' a b c =
+      whether (eqb c e)
+      (λ s. let y : c ≡ e = eqb-true _ _ s in rw y (a ∙ ap (raised v) (sym hit-here)))
+      (λ s. let y = eqb-false c e s in b c y ∙ sym (ap (raised (getD edges c 0)) (hit-else c y) ∙ raised-zero (getD edges c 0)))
+
+  pub edge-full : 2 ≤ t → Raised P n hit edges edges count count old old queued
+  edge-full l =
+      record {
+        long = refl;
+        gains = λ c h. at-all edges (sym (raised-full v 1 (omega arith))) (λ c d. refl) c;
+        queue = q;
+        extends = extends-none 0 count old;
+        places = λ p. p;
+        opened = λ c h f s. absurd (undone (sym s ∙ f));
+      }
+
+  module _ (more : t < 2) (new : ℕ) (pn : new ≡ v + 1) where
+    abbrev edges' : List ℕ
+    edges' = set edges e new
+
+    at-edge : getD (set edges e new) e 0 ≡ v + 1
+    at-edge = getD-set-same edges e new 0 (omega arith) ∙ pn
+
+    else : (c : ℕ) → (c ≡ e → ⊥) → getD (set edges e new) c 0 ≡ getD edges c 0
+    else c d = getD-set-other edges e c new 0 d
+
+    gains : (c : ℕ) → c < planes → getD (set edges e new) c 0 ≡ raised (getD edges c 0) (hit c)
+    gains c h = at-all (set edges e new) (at-edge ∙ sym (raised-one v (omega arith))) else c
+
+    -- only this edge can open
+    only : (c : ℕ) → eqb (growthOf (getD edges c 0)) 2 ≡ false → eqb (growthOf (getD (set edges e new) c 0)) 2 ≡ true → c ≡ e
+    only c f s = whether (eqb c e) (λ y. eqb-true _ _ y) (λ y. absurd (undone (sym s ∙ ap (λ (z : ℕ). eqb (growthOf z) 2) (else c (eqb-false c e y)) ∙ f)))
+
+    pub edge-half : t ≡ 0 → Raised P n hit edges (set edges e new) count count old old queued
+    edge-half z =
+        record {
+          long = length-set edges e new;
+          gains = gains;
+          queue = q;
+          extends = extends-none 0 count old;
+          places = λ p. p;
+          opened = λ c h f s.
+              let y = only c f s in
+              let g : growthOf (getD (set edges e new) c 0) ≡ 2 = eqb-true _ _ s in
+              let a : getD (set edges e new) c 0 ≡ v + 1 = ap (λ (i : ℕ). getD (set edges e new) i 0) y ∙ at-edge in
+              absurd (omega arith);
+        }
+
+    pub edge-opens : (t ≡ 0 → ⊥) → within n x ≡ true → k < P .dirs → Leads P n (λ c. growthOf (getD edges c 0)) → (j : ℕ) → j ≡ overBy x (P .off k)
+        → (some most : ℕ) (lists lists' : List ℕ) (queued' queued'' : List Bool) → Pushed x 0 count some old lists queued' → Pushed j 0 some most lists lists' queued''
+        → Raised P n hit edges (set edges e new) count most old lists' queued''
+    edge-opens z w m L j pj some most lists lists' queued' queued'' A B =
+        let none = ne-eqb (growthOf v) noEdge (λ (s : growthOf v ≡ 3). omega arith) in
+        let to = L x k w m (ap (λ (c : ℕ). eqb (growthOf (getD edges c 0)) noEdge) (sym pe) ∙ none) in
+        record {
+          long = length-set edges e new;
+          gains = gains;
+          queue = B .queue;
+          extends = extends-on 0 count some old lists (A .extends) most lists' (B .extends);
+          places = λ p. B .places n (ap (within n) pj ∙ to) (A .places n w p);
+          opened = λ c h f s.
+              record {
+                node = x;
+                way = k;
+                inside = w;
+                low = m;
+                edge = sym pe ∙ sym (only c f s);
+                here = extends-named 0 some most lists lists' (B .extends) x (A .self);
+                there = subst (λ (i : ℕ). named (listAt lists' 0) most i ≡ true) pj (B .self);
+              };
+        }
+
+-- THE LOOPS: a node more, and a direction more
+
+module _ (P : Plan) (n k : ℕ) (list : ℕ → ℕ) (i : ℕ) (edges now next : List ℕ) (count some most : ℕ) (old lists lists' : List ℕ) (queued queued' : List Bool) where
+  pub way-next : (x : ℕ) → x ≡ list i → Raised P n (hitsIn (edgesOf P list k) i) edges now count some old lists queued
+      → Raised P n (λ c. bit (eqb (overBy x (P .slot k)) c)) now next some most lists lists' queued'
+      → Raised P n (hitsIn (edgesOf P list k) (i + 1)) edges next count most old lists' queued'
+  way-next x p R S =
+      raised-on P n (hitsIn (edgesOf P list k) i) (λ c. bit (eqb (overBy x (P .slot k)) c)) (hitsIn (edgesOf P list k) (i + 1)) edges now next count some most old lists lists' queued queued'
+      (λ c. hits-more (edgesOf P list k) i c ∙ ap (λ (y : ℕ). hitsIn (edgesOf P list k) i c + bit (eqb (overBy y (P .slot k)) c)) (sym p)) R S
+
+module _ (P : Plan) (n k : ℕ) (list list' : ℕ → ℕ) (listed : ℕ) (edges now next : List ℕ) (count some most : ℕ) (old lists lists' : List ℕ) (queued queued' : List Bool) where
+  pub ways-next : ((i : ℕ) → i < listed → list' i ≡ list i) → Raised P n (hitsOf P list listed k) edges now count some old lists queued
+      → Raised P n (hitsIn (edgesOf P list' k) listed) now next some most lists lists' queued'
+      → Raised P n (hitsOf P list listed (k + 1)) edges next count most old lists' queued'
+  ways-next p R S =
+      raised-on P n (hitsOf P list listed k) (hitsIn (edgesOf P list' k) listed) (hitsOf P list listed (k + 1)) edges now next count some most old lists lists' queued queued'
+      (λ c. all-more P list listed k c ∙ ap (λ (y : ℕ). hitsOf P list listed k c + y) (hits-same (edgesOf P list k) (edgesOf P list' k) listed c c (λ i l. ap (λ (y : ℕ). eqb (overBy y (P .slot k)) c) (sym (p i l))))) R S
+
+-- WHAT IS READ stands in the arrays
+
+module _ (z : Sizes) (table : List ℕ) (S : Safe z table) (x k : ℕ) (w : within (z .nodes) x ≡ true) (l : k < z .dirs) where
+  pub node-bounds : (512 ≤ x) × (x < 4608)
+  node-bounds = let r = inside (z .nodes) x w in let r1 = r .1 in let s = S .nodes in (r .0, omega arith)
+
+  pub edge-in : overBy x (planOf z table .slot k) < planes
+  edge-in = let r = inside (z .nodes) x w in let d = S .dirs in edge-low z table S x k (r .0) (r .1) (omega arith)
+
+  pub node-in : overBy x (planOf z table .off k) < 4608
+  node-in = let r = inside (z .nodes) x w in let d = S .dirs in node-low z table S x k (r .0) (r .1) (omega arith)

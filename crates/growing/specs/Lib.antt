@@ -1,4 +1,6 @@
--- what grow makes of an edge and of a node, and of all kinds' edges
+-- the list of active nodes, what grow makes of an edge and of a bottom node, and what it leaves
 pub mod Grown
 -- how its loops prove it
+pub mod LawsListed
 pub mod LawsGrown
+pub mod LawsCut

@@ -7,7 +7,7 @@ use flat::Sizes;
 use flat::TABLE;
 use shape::Shape;
 ghost use mathlib.Core.Path.{_≡_};
-ghost use mathlib.Core.Bool.{true, not};
+ghost use mathlib.Core.Bool.{true, false, not};
 ghost use Prim.Native.Nat.{ℕ, _+_, _-_, _≤_, _<_};
 ghost use lib.ListN.{length, getD};
 ghost use Rattle.shape.specs.Sizes.{inRange, detectorsOf};
@@ -76,10 +76,41 @@ pub fn escape(z: Sizes, shape: Shape, nodes: &[u8; PLANE], out: &mut [u8])
     }
 }
 
-// No edge of a part is corrected.
-pub fn is_blank(at: usize, n: usize, edges: &[u8; PLANES]) -> bool
+// No sheet is longer: a test of so many entries together is cheap, since their number is known.
+const STRETCH: usize = 256;
+
+// The bits of a stretch of edges together.
+fn edge_bits(at: usize, edges: &[u8; PLANES]) -> u8
+    requires { ⌜ at + 256 ≤ 27648 ⌝ }
+    ensures { λ r. ⌜ ((i : ℕ) → i < 256 → getD (now (edges .entry)) (at + i) 0 ≤ r) ⌝ }
+{
+    let mut bits: u8 = 0;
+    let mut i: usize = 0;
+    while i < STRETCH {
+        bits = bits | edges[at + i];
+        i += 1;
+    }
+    bits
+}
+
+// No edge is corrected as far as the stretch goes.
+fn blank_on(at: usize, n: usize, edges: &[u8; PLANES]) -> bool
     requires { ⌜ at + n ≤ 27648 ⌝ }
-    ensures { λ r. ⌜ r ≡ not (any n (λ i. correctionOf (getD (now (edges .entry)) (at + i) 0))) ⌝ }
+    ensures { λ r. ⌜ (r ≡ true → any n (λ i. correctionOf (getD (now (edges .entry)) (at + i) 0)) ≡ false) ⌝ }
+{
+    if STRETCH < n {
+        return false;
+    }
+    if PLANES - STRETCH < at {
+        return false;
+    }
+    edge_bits(at, edges) < 4
+}
+
+// Some edge of a part is corrected.
+fn any_corrected(at: usize, n: usize, edges: &[u8; PLANES]) -> bool
+    requires { ⌜ at + n ≤ 27648 ⌝ }
+    ensures { λ r. ⌜ r ≡ any n (λ i. correctionOf (getD (now (edges .entry)) (at + i) 0)) ⌝ }
 {
     let mut found = false;
     let mut i: usize = 0;
@@ -87,13 +118,52 @@ pub fn is_blank(at: usize, n: usize, edges: &[u8; PLANES]) -> bool
         found = found | flat::corrected(edges[at + i]);
         i += 1;
     }
-    !found
+    found
 }
 
-// No node of a part has a defect.
-pub fn is_quiet(at: usize, n: usize, nodes: &[u8; PLANE]) -> bool
+// No edge of a part is corrected: mostly none is on the stretch either, and else they are looked at one by one.
+pub fn is_blank(at: usize, n: usize, edges: &[u8; PLANES]) -> bool
+    requires { ⌜ at + n ≤ 27648 ⌝ }
+    ensures { λ r. ⌜ r ≡ not (any n (λ i. correctionOf (getD (now (edges .entry)) (at + i) 0))) ⌝ }
+{
+    if blank_on(at, n, edges) {
+        return true;
+    }
+    !any_corrected(at, n, edges)
+}
+
+// The bits of a stretch of nodes together.
+fn node_bits(at: usize, nodes: &[u8; PLANE]) -> u8
+    requires { ⌜ at + 256 ≤ 4608 ⌝ }
+    ensures { λ r. ⌜ (defectOf r ≡ false → (i : ℕ) → i < 256 → defectOf (getD (now (nodes .entry)) (at + i) 0) ≡ false) ⌝ }
+{
+    let mut bits: u8 = 0;
+    let mut i: usize = 0;
+    while i < STRETCH {
+        bits = bits | nodes[at + i];
+        i += 1;
+    }
+    bits
+}
+
+// No node has a defect as far as the stretch goes.
+fn quiet_on(at: usize, n: usize, nodes: &[u8; PLANE]) -> bool
     requires { ⌜ at + n ≤ 4608 ⌝ }
-    ensures { λ r. ⌜ r ≡ not (any n (λ i. defectOf (getD (now (nodes .entry)) (at + i) 0))) ⌝ }
+    ensures { λ r. ⌜ (r ≡ true → any n (λ i. defectOf (getD (now (nodes .entry)) (at + i) 0)) ≡ false) ⌝ }
+{
+    if STRETCH < n {
+        return false;
+    }
+    if PLANE - STRETCH < at {
+        return false;
+    }
+    !flat::defect(node_bits(at, nodes))
+}
+
+// Some node of a part has a defect.
+fn any_defect(at: usize, n: usize, nodes: &[u8; PLANE]) -> bool
+    requires { ⌜ at + n ≤ 4608 ⌝ }
+    ensures { λ r. ⌜ r ≡ any n (λ i. defectOf (getD (now (nodes .entry)) (at + i) 0)) ⌝ }
 {
     let mut found = false;
     let mut i: usize = 0;
@@ -101,5 +171,16 @@ pub fn is_quiet(at: usize, n: usize, nodes: &[u8; PLANE]) -> bool
         found = found | flat::defect(nodes[at + i]);
         i += 1;
     }
-    !found
+    found
+}
+
+// No node of a part has a defect.
+pub fn is_quiet(at: usize, n: usize, nodes: &[u8; PLANE]) -> bool
+    requires { ⌜ at + n ≤ 4608 ⌝ }
+    ensures { λ r. ⌜ r ≡ not (any n (λ i. defectOf (getD (now (nodes .entry)) (at + i) 0))) ⌝ }
+{
+    if quiet_on(at, n, nodes) {
+        return true;
+    }
+    !any_defect(at, n, nodes)
 }

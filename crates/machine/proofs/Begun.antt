@@ -28,14 +28,14 @@ use Rattle.shows.specs.Riding.{Riding}
 use Rattle.shows.specs.Grown.{Grows, grown-shows, riding-grown}
 use Rattle.shows.specs.Tests.{riding-by, aloft-by}
 use Rattle.shows.specs.Pass.{Going}
-use Rattle.shows.specs.Turn.{live-all, going-all}
+use Rattle.shows.specs.Turn.{going-all}
 use Rattle.window.specs.LawsRun.{ran-grown, ran-merging}
 use Rattle.shows.specs.Run.{Over}
 use Rattle.plan.specs.Table.{sizesOf}
 use Rattle.plan.specs.Filled.{Filled}
 use Rattle.unpack.specs.Rides.{ridesIn}
 use Rattle.unpack.specs.Unpacked.{Unpacked}
-use Rattle.live.specs.Enlisted.{Enlisted}
+use Rattle.enlist.specs.Enlisted.{Enlisted}
 use Rattle.run_steps.specs.Going.{Shown, Ended}
 use Rattle.machine.specs.Due.{Due}
 use Rattle.machine.proofs.Packed.{shown}
@@ -101,20 +101,20 @@ module _ (w : Window) (z : Sizes) (e : z ≡ sizesOf (ofModel (w .shape .model))
             riding = λ u. riding-by (ofModel (w .shape .model)) (suited-model (w .shape .model)) w k P₀ (F .planned) st H (sym r ∙ u);
           }
 
-      pub begun : (due : Bool) → due ≡ isToGrow (w .stage) → isRest (w .stage) ≡ false → rides ≡ every (z .nodes) (λ g. ridesIn z due nodes edges table (entry g))
-          → Due due (planOf z table) (z .nodes) (z .sheet) (stateOf nodes marks edges) st' → Begun w rides st'
-      begun due d m r D =
+      pub begun : (count : ℕ) (lists : List ℕ) (queued : List Bool) (due : Bool) → due ≡ isToGrow (w .stage) → isRest (w .stage) ≡ false → rides ≡ every (z .nodes) (λ g. ridesIn z due nodes edges table (entry g))
+          → Due due (planOf z table) (z .nodes) (z .sheet) (stateOf nodes marks edges) st' count lists queued → Begun w rides st'
+      begun count lists queued due d m r D =
           go due d
           (subst (λ (s : Sizes). rides ≡ every (s .nodes) (λ g. ridesIn s due nodes edges table (entry g))) e r)
-          (subst (λ (s : Sizes). Due due (planOf s table) (s .nodes) (s .sheet) st st') e D)
+          (subst (λ (s : Sizes). Due due (planOf s table) (s .nodes) (s .sheet) st st' count lists queued) e D)
         where
-          go : (due : Bool) → due ≡ isToGrow (w .stage) → rides ≡ every (size w) (λ g. ridesIn z₀ due nodes edges table (entry g)) → Due due P₀ (size w) (sheet w) st st' → Begun w rides st'
+          go : (due : Bool) → due ≡ isToGrow (w .stage) → rides ≡ every (size w) (λ g. ridesIn z₀ due nodes edges table (entry g)) → Due due P₀ (size w) (sheet w) st st' count lists queued → Begun w rides st'
           go true d r D = grown-begun (sym d) r (D .grows refl)
           go false d r D = merging-begun m (sym d) r (D .same refl)
 
   -- WITH A LIST OF ALL NODES
-  module _ (rides : Bool) (st : State) (B : Begun w rides st) (old lists : List ℕ) (queued : List Bool) (count : ℕ)
-      (E : Enlisted (z .nodes) 0 old (λ i. true) (λ i. 512 + i) (z .nodes) count lists queued) where
+  module _ (rides : Bool) (st : State) (B : Begun w rides st) (start : ℕ) (old lists : List ℕ) (queued : List Bool) (count : ℕ)
+      (E : Enlisted (z .nodes) start old (λ i. true) (λ i. 512 + i) (z .nodes) count lists queued) where
     abbrev list : ℕ → ℕ
     list = listAt lists 0
 
@@ -142,8 +142,8 @@ module _ (w : Window) (z : Sizes) (e : z ≡ sizesOf (ofModel (w .shape .model))
 
     -- THE END IS PACKED
     module _ (budget : ℕ) (rest : Bool) (made : ℕ) (st' : State) (ended : Ended (planOf z table) (z .nodes) budget st rides count (listAt lists 0) rest made st') where
-      over : Over (ofModel (w .shape .model)) (planOf z table) budget (stepsFrom (ofModel (w .shape .model)) budget 0 (B .window)) rides (λ g. named list count (entry g)) (B .window) rest made st'
-      over = ended (ofModel (w .shape .model)) (suited-model (w .shape .model)) (B .window) same-size going (λ g. named list count (entry g)) (λ t. live-all (ofModel (w .shape .model)) (B .window) count list all-named)
+      over : Over (ofModel (w .shape .model)) (planOf z table) budget (stepsFrom (ofModel (w .shape .model)) budget 0 (B .window)) rides (B .window) rest made st'
+      over = ended (ofModel (w .shape .model)) (suited-model (w .shape .model)) (B .window) same-size going
 
       abbrev v : Window
       v = over .window

@@ -30,6 +30,7 @@ use Rattle.shows.specs.Unpack.{window-shown}
 use Rattle.shows.specs.Sinks.{secondThere, Sinks, sinks-shows}
 use Rattle.shows.specs.Grown.{Grows, grown-shows}
 use Rattle.queue.specs.Queue.{Empty}
+use Rattle.grow_step.specs.Standing.{Standing}
 use Rattle.plan.specs.Table.{sizesOf}
 use Rattle.plan.specs.Filled.{Filled}
 use Rattle.unpack.specs.Unpacked.{Unpacked}
@@ -78,6 +79,11 @@ module _ (w : Window) (z : Sizes) (e : z ≡ sizesOf (ofModel (w .shape .model))
 
     pub shown : Shows (ofModel (w .shape .model)) w (stateOf nodes marks edges)
     shown = written-shows (ofModel (w .shape .model)) w k nodes marks edges (U .written)
+
+    pub standing : Standing (planOf z table) (z .nodes) (z .sheet) (stateOf nodes marks edges)
+    standing =
+        subst (λ (s : Sizes). Standing (planOf s table) (s .nodes) (s .sheet) (stateOf nodes marks edges)) (sym e)
+        (ofModel (w .shape .model), suited-model (w .shape .model), w, refl, refl, k, F .planned, shown)
 
     pub grown-packed : (st' : State) → Grows (planOf z table) (z .nodes) (z .sheet) st st' → windowOf (ofModel (w .shape .model)) (w .shape) Merging (w .next) (w .measured) st' ≡ grown (ofModel (w .shape .model)) w
     unfolding grown

@@ -23,6 +23,8 @@ ghost use Rattle.window.specs.Calls.{asRound, receiving};
 ghost use Rattle.window.specs.declared.Stage.the-variants.{Rest, Merging};
 ghost use Rattle.flat.specs.Entries.{stateOf, Long};
 ghost use Rattle.flat.specs.Plan.{planOf, Safe};
+ghost use Rattle.queue.specs.Queue.{Empty};
+ghost use Rattle.grow_step.specs.Standing.{Standing};
 ghost use Rattle.machine.specs.Due.{Due};
 
 // A round received with these defects: what leaves goes to the buffers, and the window is one sheet lower, with a new top sheet.
@@ -84,10 +86,20 @@ pub fn grow(w: Window) -> Window
     let mut marks = [0; PLANE];
     let mut edges = [NO_EDGE; PLANES];
     let mut table = [0; TABLE];
+    let mut lists = [0; LISTS];
+    let mut queued = [false; PLANE];
     let z = plan::sizes(shape);
     plan::fill(shape, &mut table);
     unpack::unpack(w, &mut nodes, &mut marks, &mut edges, &table);
-    grow_step::grow(z, &mut nodes, &mut marks, &mut edges, &table);
+    grow_step::grow(
+        z,
+        &mut nodes,
+        &mut marks,
+        &mut edges,
+        &table,
+        &mut lists,
+        &mut queued,
+    );
     pack::pack(
         shape,
         Stage::Merging,
@@ -99,7 +111,7 @@ pub fn grow(w: Window) -> Window
     )
 }
 
-// Grow on arrays, where it is due.
+// Grow on arrays, where it is due; how many ends of opened edges are listed.
 fn grow_due(
     z: Sizes,
     due: bool,
@@ -107,15 +119,20 @@ fn grow_due(
     marks: &mut [u16; PLANE],
     edges: &mut [u8; PLANES],
     table: &[u16; TABLE],
-)
+    lists: &mut [u16; LISTS],
+    queued: &mut [bool; PLANE],
+) -> usize
     requires { ⌜ Safe z (now table) ⌝ }
     requires { ⌜ Long (now nodes) (now marks) (now edges) ⌝ }
+    requires { ⌜ (length (now lists) ≡ 13824) × Empty (now queued) ⌝ }
+    requires { ⌜ Standing (planOf z (now table)) (z .nodes) (z .sheet) (stateOf (now nodes) (now marks) (now edges)) ⌝ }
     ensures { λ _. ⌜ Long (now (nodes .exit)) (now (marks .exit)) (now (edges .exit)) ⌝ }
-    ensures { λ _. ⌜ Due due (planOf z (now (table .entry))) (z .nodes) (z .sheet) (stateOf (now (nodes .entry)) (now (marks .entry)) (now (edges .entry))) (stateOf (now (nodes .exit)) (now (marks .exit)) (now (edges .exit))) ⌝ }
+    ensures { λ r. ⌜ Due due (planOf z (now (table .entry))) (z .nodes) (z .sheet) (stateOf (now (nodes .entry)) (now (marks .entry)) (now (edges .entry))) (stateOf (now (nodes .exit)) (now (marks .exit)) (now (edges .exit))) r (now (lists .exit)) (now (queued .exit)) ⌝ }
 {
     if due {
-        grow_step::grow(z, nodes, marks, edges, table);
+        return grow_step::grow(z, nodes, marks, edges, table, lists, queued);
     }
+    0
 }
 
 // The stage that a run comes to.
@@ -149,8 +166,17 @@ pub fn run(w: Window, budget: u32) -> Ran
     plan::fill(shape, &mut table);
     unpack::unpack(w, &mut nodes, &mut marks, &mut edges, &table);
     let rides = unpack::rides(z, due, &nodes, &edges, &table);
-    grow_due(z, due, &mut nodes, &mut marks, &mut edges, &table);
-    let count = live::all_nodes(z, &mut lists, &mut queued);
+    let opened = grow_due(
+        z,
+        due,
+        &mut nodes,
+        &mut marks,
+        &mut edges,
+        &table,
+        &mut lists,
+        &mut queued,
+    );
+    let count = enlist::all_nodes(z, opened, &mut lists, &mut queued);
     let reached = run_steps::run(
         z,
         rides,

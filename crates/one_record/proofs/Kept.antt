@@ -2,7 +2,7 @@
 use Prim.Native.Nat.{ℕ, zero, suc, _+_, _-_, _≤_}
 use native.Mathlib.Omega.{arith}
 use mathlib.Core.Path.{_≡_, refl, sym, _∙_, ap, subst}
-use mathlib.Core.Bool.{Bool}
+use mathlib.Core.Bool.{Bool, true}
 use mathlib.Core.List.{List, _∷_}
 use lib.ListN.{length, take, replicate}
 use Rattle.refusal.specs.Answer.{Answer, done, ended, andThen, turned, codeOf, withoutValue, valueOr, itself}
@@ -24,7 +24,6 @@ use Rattle.decoding.specs.Answers.{RecordAnswer, over, to, RecordReturned, reco
 use Rattle.decoding.specs.LawsDecoding.{recorded-turned}
 use Rattle.flat.specs.Entries.{State, stateOf, Long}
 use Rattle.flat.specs.Plan.{Plan}
-use Rattle.flat.specs.Step.{liveAt}
 use Rattle.next_round.specs.Next.{nextRound}
 use Rattle.next_round.specs.Laws.{record-next}
 use Rattle.shows.specs.Turn.{Held}
@@ -50,7 +49,7 @@ module _ (a : Answer (List ℕ)) (r : RoundRead) (new : List ℕ) (told : buffer
       let same : new ≡ v .0 = ap (λ (x : Buffered). x .buffer) told ∙ ap (λ (x : Answer (List ℕ)). valueOr x itself new) (v .1) in
       v .1 ∙ ap (λ (l : List ℕ). done l behind) (sym same)
 
-module _ (P : Plan) (sh : Shape) (next : ℕ) (nodes₀ marks₀ edges₀ : List ℕ) (rides : Bool) (before : ℕ) (was : ℕ → ℕ) (s : List ℕ) (b : Bytes s) (at : ℕ) (old : List ℕ) (from : ℕ) where
+module _ (P : Plan) (sh : Shape) (next : ℕ) (nodes₀ marks₀ edges₀ : List ℕ) (rides quiet : Bool) (s : List ℕ) (b : Bytes s) (at : ℕ) (old : List ℕ) (from : ℕ) where
   abbrev st₀ : State
   st₀ = stateOf nodes₀ marks₀ edges₀
 
@@ -65,48 +64,44 @@ module _ (P : Plan) (sh : Shape) (next : ℕ) (nodes₀ marks₀ edges₀ : List
   abbrev leaves : Window → Answer Turn → RecordReturned
   leaves w a = recordedLeaves (recorded (length old - from) a) w old from
 
-  whole-is : (w : Window) → w .shape ≡ sh → w .next ≡ next → Held (ofModel (sh .model)) P w st₀ rides before was → leaves w (andThen found (turnedBy w)) ≡ recordLeaves (ofModel (sh .model)) s w at old from
+  whole-is : (w : Window) → w .shape ≡ sh → w .next ≡ next → Held (ofModel (sh .model)) P w st₀ rides quiet → leaves w (andThen found (turnedBy w)) ≡ recordLeaves (ofModel (sh .model)) s w at old from
   whole-is w e f H =
       let q : nextRound s (detectorsOf (w .shape .height) (w .shape .distance)) (w .next) at (length old) from ≡ found = rw (e, f) in
       ap (λ (x : Answer (List ℕ)). leaves w (andThen x (turnedBy w))) (sym q)
       ∙ ap (λ (x : Recorded). recordedLeaves x w old from) (record-next (ofModel (sh .model)) (suited-model (sh .model)) s b w (H .kept .formed) (H .rest) at (length old) from)
 
   -- IT STOPS BEFORE A ROUND: window and arrays stay
-  module _ (nodes marks edges : List ℕ) (long : Long nodes marks edges) (few : before ≤ 4608) (lists : List ℕ) (queued : List Bool) (words : List ℕ) (scratch : Scratch lists queued words) where
+  module _ (nodes marks edges : List ℕ) (long : Long nodes marks edges) (lists : List ℕ) (queued : List Bool) (words : List ℕ) (scratch : Scratch lists queued words) where
     stops : (l : Line) → ((w : Window) → recordReturned (over l) w old ≡ leaves w (andThen found (turnedBy w)))
-        → RecordOn P sh next (stateOf nodes₀ marks₀ edges₀) rides before was s at old from (over l) old next rides before nodes marks edges lists queued words
+        → RecordOn P sh next (stateOf nodes₀ marks₀ edges₀) rides quiet s at old from (over l) old next rides quiet nodes marks edges lists queued words
     stops l q =
         record {
           long = long;
-          few = few;
           scratch = scratch;
           same = refl;
           each = λ w e f H. record { window = w; leaves = q w ∙ whole-is w e f H; held = λ i j k. absurd (let z : _≡_ {A = ℕ} 0 1 = cc in omega arith) };
         }
 
     pub on-end : withoutValue (nextRound s (detectorsOf (sh .height) (sh .distance)) next at (length old) from) ≡ ended
-        → RecordOn P sh next (stateOf nodes₀ marks₀ edges₀) rides before was s at old from (over finished) old next rides before nodes marks edges lists queued words
+        → RecordOn P sh next (stateOf nodes₀ marks₀ edges₀) rides quiet s at old from (over finished) old next rides quiet nodes marks edges lists queued words
     on-end z = stops finished (λ w. ap (leaves w) (sym (ended-on found (turnedBy w) z)))
 
     pub on-refused : (f : Refusal) → withoutValue (nextRound s (detectorsOf (sh .height) (sh .distance)) next at (length old) from) ≡ turned f
-        → RecordOn P sh next (stateOf nodes₀ marks₀ edges₀) rides before was s at old from (over (turnedBack (codeOf f))) old next rides before nodes marks edges lists queued words
+        → RecordOn P sh next (stateOf nodes₀ marks₀ edges₀) rides quiet s at old from (over (turnedBack (codeOf f))) old next rides quiet nodes marks edges lists queued words
     on-refused f z =
         stops (turnedBack (codeOf f))
         (λ w. ap (λ (x : Recorded). recordedLeaves x w old from) (sym (recorded-turned (length old - from) f)) ∙ ap (leaves w) (sym (turned-on found f (turnedBy w) z)))
 
   -- A ROUND WAS READ, received and run
   module _ (bytes : List ℕ) (behind : ℕ) (read : nextRound s (detectorsOf (sh .height) (sh .distance)) next at (length old) from ≡ done bytes behind)
-      (rest : Bool) (made count : ℕ) (nodes marks edges lists : List ℕ) (queued : List Bool) (words : List ℕ)
-      (L : TurnLeaves P sh next bytes (stateOf nodes₀ marks₀ edges₀) rides before was rest made count nodes marks edges lists queued words)
+      (rest : Bool) (made : ℕ) (nodes marks edges lists : List ℕ) (queued : List Bool) (words : List ℕ)
+      (L : TurnLeaves P sh next bytes (stateOf nodes₀ marks₀ edges₀) rides quiet rest made nodes marks edges lists queued words)
       (answer : RecordAnswer) (new : List ℕ) (put : RecordOf sh nodes₀ edges₀ rest made behind old from answer new) where
     abbrev st : State
     st = stateOf nodes marks edges
 
-    abbrev list : ℕ → ℕ
-    list = liveAt lists
-
-    module _ (w : Window) (e : w .shape ≡ sh) (f : w .next ≡ next) (H : Held (ofModel (sh .model)) P w st₀ rides before was) where
-      turns : Turned (ofModel (sh .model)) P w bytes rides rest made st count list
+    module _ (w : Window) (e : w .shape ≡ sh) (f : w .next ≡ next) (H : Held (ofModel (sh .model)) P w st₀ rides quiet) where
+      turns : Turned (ofModel (sh .model)) P w bytes rides rest made st
       turns = L .turns w e f H
 
       abbrev run : Ran
@@ -121,16 +116,15 @@ module _ (P : Plan) (sh : Shape) (next : ℕ) (nodes₀ marks₀ edges₀ : List
 
       held-after : (i j : ℕ) → answer ≡ to i j
           → (windowAfter answer w (turns .window) .shape ≡ w .shape) × (windowAfter answer w (turns .window) .next ≡ next + 1) × (windowAfter answer w (turns .window) .measured ≡ w .measured)
-          × Held (ofModel (sh .model)) P (windowAfter answer w (turns .window)) st rides count list
+          × Held (ofModel (sh .model)) P (windowAfter answer w (turns .window)) st rides true
       held-after i j k =
-          subst (λ (v : Window). (v .shape ≡ w .shape) × (v .next ≡ next + 1) × (v .measured ≡ w .measured) × Held (ofModel (sh .model)) P v st rides count list) (sym (ap (λ (x : RecordAnswer). windowAfter x w (turns .window)) k))
+          subst (λ (v : Window). (v .shape ≡ w .shape) × (v .next ≡ next + 1) × (v .measured ≡ w .measured) × Held (ofModel (sh .model)) P v st rides true) (sym (ap (λ (x : RecordAnswer). windowAfter x w (turns .window)) k))
           (turns .shape, turns .next ∙ ap (λ (n : ℕ). n + 1) f, turns .measured, turns .held (put .rested i j k))
 
-    pub on-read : RecordOn P sh next (stateOf nodes₀ marks₀ edges₀) rides before was s at old from answer new (next + 1) rides count nodes marks edges lists queued words
+    pub on-read : RecordOn P sh next (stateOf nodes₀ marks₀ edges₀) rides quiet s at old from answer new (next + 1) rides true nodes marks edges lists queued words
     on-read =
         record {
           long = L .long;
-          few = L .few;
           scratch = L .scratch;
           same = refl;
           each = λ w e f H. record { window = windowAfter answer w (turns w e f H .window); leaves = written w e f H; held = held-after w e f H };

@@ -8,10 +8,10 @@ use flat::Sizes;
 use flat::TABLE;
 use number::Wrote;
 use record::RoundRead;
+use run_steps::Reached;
 use shape::MAX_DETECTORS;
 use shape::Shape;
 use turn::Held;
-use turn::TurnGiven;
 ghost use mathlib.Core.Path.{_≡_};
 ghost use Prim.Native.Nat.{_≤_};
 ghost use lib.ListN.{length};
@@ -20,7 +20,6 @@ ghost use Rattle.steps.specs.Models.{ofModel};
 ghost use Rattle.decoding.specs.Answers.{recordAnswer};
 ghost use Rattle.flat.specs.Entries.{stateOf};
 ghost use Rattle.flat.specs.Plan.{planOf};
-ghost use Rattle.flat.specs.Step.{liveAt};
 ghost use Rattle.plan.specs.Table.{sizesOf};
 ghost use Rattle.plan.specs.Filled.{Filled};
 ghost use Rattle.turn.specs.Ready.{Ready};
@@ -38,7 +37,7 @@ pub struct RecordGiven {
 fn record_of(
     shape: Shape,
     z: Sizes,
-    ended: TurnGiven,
+    ended: Reached,
     behind: usize,
     old_nodes: &[u8; PLANE],
     old_edges: &[u8; PLANES],
@@ -81,8 +80,8 @@ pub fn record_on(
     queued: &mut [bool; PLANE],
     words: &mut [u32; PLANE],
 ) -> RecordGiven
-    requires { ⌜ Ready shape z (held .next) (held .rides) (held .live) (now «old_nodes») (now «old_marks») (now «old_edges») (now nodes) (now marks) (now edges) (now table) (now lists) (now queued) (now words) ⌝ }
-    ensures { λ r. ⌜ RecordOn (planOf z (now (table .entry))) shape (held .next) (stateOf (now («old_nodes» .entry)) (now («old_marks» .entry)) (now («old_edges» .entry))) (held .rides) (held .live) (liveAt (now (lists .entry))) (now (src .entry)) at (now (out .entry)) to (recordAnswer (r .answer)) (now (out .exit)) (r .held .next) (r .held .rides) (r .held .live) (now (nodes .exit)) (now (marks .exit)) (now (edges .exit)) (now (lists .exit)) (now (queued .exit)) (now (words .exit)) ⌝ }
+    requires { ⌜ Ready shape z (held .next) (held .rides) (held .quiet) (now «old_nodes») (now «old_marks») (now «old_edges») (now nodes) (now marks) (now edges) (now table) (now lists) (now queued) (now words) ⌝ }
+    ensures { λ r. ⌜ RecordOn (planOf z (now (table .entry))) shape (held .next) (stateOf (now («old_nodes» .entry)) (now («old_marks» .entry)) (now («old_edges» .entry))) (held .rides) (held .quiet) (now (src .entry)) at (now (out .entry)) to (recordAnswer (r .answer)) (now (out .exit)) (r .held .next) (r .held .rides) (r .held .quiet) (now (nodes .exit)) (now (marks .exit)) (now (edges .exit)) (now (lists .exit)) (now (queued .exit)) (now (words .exit)) ⌝ }
 {
     let n = extent::detectors(shape);
     let mut bytes = [0; MAX_DETECTORS];
@@ -128,7 +127,7 @@ pub fn record_on(
                 held: Held {
                     next: held.next + 1,
                     rides: held.rides,
-                    live: ended.live,
+                    quiet: true,
                 },
             }
         }

@@ -22,6 +22,13 @@ use Rattle.top_sheet.specs.Received.{Received}
 use Rattle.round_step.specs.Falls.{FallsNodes, FallsMarks}
 use Rattle.round_step.specs.LawsFalls.{fitting}
 
+-- a sheet that is cleared
+pub clear : (h d : ℕ) → inRange h d ≡ true → (sheet : ℕ) → sheet ≡ h * (d + 1) → (l₁ l₂ : List ℕ) → length l₁ ≡ plane → l₂ ≡ stored 512 (λ i. 0) sheet l₁
+    → (x : ℕ) → x < h * (d + 1) → getD l₂ (512 + x) 0 ≡ 0
+clear h d ok sheet es l₁ l₂ long e x l =
+    let most = fitting h d ok .sheet in
+    ap (λ (k : List ℕ). getD k (512 + x) 0) e ∙ stored-at 512 (λ i. 0) sheet l₁ 0 x (omega arith) (omega (arith, long))
+
 module _ (h d : ℕ) (ok : inRange h d ≡ true) (n sheet : ℕ) (en : n ≡ nodesOf h d) (es : sheet ≡ h * (d + 1)) where
   module _ (bytes old l₀ l₁ l₂ l₃ : List ℕ) (size : length l₀ ≡ plane)
       (sinks : l₁ ≡ stored (512 + sheet) (λ i. settled (getD old (512 + i) 0)) (n - sheet) l₀) (clears : l₂ ≡ stored 512 (λ i. 0) sheet l₁) (R : Received h d bytes l₂ l₃) where
@@ -33,10 +40,7 @@ module _ (h d : ℕ) (ok : inRange h d ≡ true) (n sheet : ℕ) (en : n ≡ nod
 
     cleared : (r c : ℕ) → r < h → c ≤ d → getD l₂ (512 + (r * (d + 1) + c)) 0 ≡ 0
     cleared r c a b =
-        let x = r * (d + 1) + c in
-        let most = fitting h d ok .sheet in
-        let low = before (d + 1) r c (omega arith) h a in
-        ap (λ (l : List ℕ). getD l (512 + x) 0) clears ∙ stored-at 512 (λ i. 0) sheet l₁ 0 x (omega arith) (omega (arith, long₁))
+        clear h d ok sheet es l₁ l₂ long₁ clears (r * (d + 1) + c) (before (d + 1) r c (omega arith) h a)
 
     on-top : (r c : ℕ) → r < h → c ≤ d → getD l₃ (entry (r * (d + 1) + c)) 0 ≡ nodeCode false (not (boundary d c) && eqb (getD bytes (r * (d - 1) + (c - 1)) 0) 1) false 0
     on-top r c a b =

@@ -16,7 +16,6 @@ use Rattle.decoding.specs.Decoding.{Line}
 use Rattle.decoding.specs.Answers.{RecordAnswer, to, over, roundsReturned, roundsLeave}
 use Rattle.flat.specs.Entries.{State, stateOf}
 use Rattle.flat.specs.Plan.{Plan, planOf}
-use Rattle.flat.specs.Step.{liveAt}
 use Rattle.flat.specs.declared.Sizes.{Sizes}
 use Rattle.shows.specs.Shows.{Shows}
 use Rattle.round_step.specs.Falls.{NoneOutside}
@@ -37,50 +36,50 @@ pub record RoundsEnd (T : Table) (w : Window) (s : List ℕ) (at : ℕ) (old : L
   pub shows : Shows T window st
 
 -- for every window that was held
-abbrev pub RoundsOn : Plan → Shape → ℕ → State → Bool → ℕ → (ℕ → ℕ) → List ℕ → ℕ → List ℕ → ℕ → Line → ℕ → ℕ → List ℕ → ℕ → State → Type 0
-RoundsOn P sh next₀ st₀ rides₀ count₀ list₀ s at old from line i j new next st =
-    (w : Window) → w .shape ≡ sh → w .next ≡ next₀ → Held (ofModel (sh .model)) P w st₀ rides₀ count₀ list₀ → RoundsEnd (ofModel (sh .model)) w s at old from line i j new next st
+abbrev pub RoundsOn : Plan → Shape → ℕ → State → Bool → Bool → List ℕ → ℕ → List ℕ → ℕ → Line → ℕ → ℕ → List ℕ → ℕ → State → Type 0
+RoundsOn P sh next₀ st₀ rides₀ quiet₀ s at old from line i j new next st =
+    (w : Window) → w .shape ≡ sh → w .next ≡ next₀ → Held (ofModel (sh .model)) P w st₀ rides₀ quiet₀ → RoundsEnd (ofModel (sh .model)) w s at old from line i j new next st
 
 -- BETWEEN TWO RECORDS, of a window: the rounds left give the whole
-record Along (T : Table) (P : Plan) (w : Window) (s : List ℕ) (at : ℕ) (old : List ℕ) (from i : ℕ) (out : List ℕ) (j next : ℕ) (st : State) (rides : Bool) (count : ℕ) (list : ℕ → ℕ) : Type 0 where
+record Along (T : Table) (P : Plan) (w : Window) (s : List ℕ) (at : ℕ) (old : List ℕ) (from i : ℕ) (out : List ℕ) (j next : ℕ) (st : State) (rides quiet : Bool) : Type 0 where
   window : Window
   same : roundsLeave T s w at old from ≡ roundsLeave T s window i out j
   shape : window .shape ≡ w .shape
   next-is : window .next ≡ next
   measured : window .measured ≡ w .measured
-  held : Held T P window st rides count list
+  held : Held T P window st rides quiet
 
 -- for every window that was held; the arrays are ready for the next one
-pub record Between (sh : Shape) (z : Sizes) (next₀ : ℕ) (st₀ : State) (rides₀ : Bool) (count₀ : ℕ) (list₀ : ℕ → ℕ) (s : List ℕ) (at : ℕ) (old : List ℕ) (from : ℕ)
-    (i : ℕ) (out : List ℕ) (j next : ℕ) (rides : Bool) (count : ℕ) (nodes marks edges other-nodes other-marks other-edges table lists : List ℕ) (queued : List Bool) (words : List ℕ) : Type 0 where
-  pub ready : Ready sh z next rides count nodes marks edges other-nodes other-marks other-edges table lists queued words
+pub record Between (sh : Shape) (z : Sizes) (next₀ : ℕ) (st₀ : State) (rides₀ quiet₀ : Bool) (s : List ℕ) (at : ℕ) (old : List ℕ) (from : ℕ)
+    (i : ℕ) (out : List ℕ) (j next : ℕ) (rides quiet : Bool) (nodes marks edges other-nodes other-marks other-edges table lists : List ℕ) (queued : List Bool) (words : List ℕ) : Type 0 where
+  pub ready : Ready sh z next rides quiet nodes marks edges other-nodes other-marks other-edges table lists queued words
   pub size : length out ≡ length old
-  each : (w : Window) → w .shape ≡ sh → w .next ≡ next₀ → Held (ofModel (sh .model)) (planOf z table) w st₀ rides₀ count₀ list₀
-      → Along (ofModel (sh .model)) (planOf z table) w s at old from i out j next (stateOf nodes marks edges) rides count (liveAt lists)
+  each : (w : Window) → w .shape ≡ sh → w .next ≡ next₀ → Held (ofModel (sh .model)) (planOf z table) w st₀ rides₀ quiet₀
+      → Along (ofModel (sh .model)) (planOf z table) w s at old from i out j next (stateOf nodes marks edges) rides quiet
 
 module _ (sh : Shape) (z : Sizes) (table : List ℕ) where
   abbrev P : Plan
   P = planOf z table
 
   -- margins of a set that shows a window hold no edge
-  held-outside : (next : ℕ) (nodes marks edges : List ℕ) (rides : Bool) (count : ℕ) (list : ℕ → ℕ) → HeldAt (planOf z table) sh next (stateOf nodes marks edges) rides count list
+  held-outside : (next : ℕ) (nodes marks edges : List ℕ) (rides quiet : Bool) → HeldAt (planOf z table) sh next (stateOf nodes marks edges) rides quiet
       → NoneOutside (ofModel (sh .model)) (sh .height) (sh .distance) edges
-  held-outside next nodes marks edges rides count list h =
+  held-outside next nodes marks edges rides quiet h =
       subst (λ (o : Shape). NoneOutside (ofModel (sh .model)) (o .height) (o .distance) edges) (h .1) (h .3 .shows .margins)
 
-  pub begins : (next : ℕ) (rides : Bool) (count : ℕ) (s : List ℕ) (at : ℕ) (old : List ℕ) (from : ℕ) (nodes marks edges other-nodes other-marks other-edges lists : List ℕ) (queued : List Bool) (words : List ℕ)
-      → Ready sh z next rides count nodes marks edges other-nodes other-marks other-edges table lists queued words
-      → Between sh z next (stateOf nodes marks edges) rides count (liveAt lists) s at old from at old from next rides count nodes marks edges other-nodes other-marks other-edges table lists queued words
-  begins next rides count s at old from nodes marks edges other-nodes other-marks other-edges lists queued words r =
+  pub begins : (next : ℕ) (rides quiet : Bool) (s : List ℕ) (at : ℕ) (old : List ℕ) (from : ℕ) (nodes marks edges other-nodes other-marks other-edges lists : List ℕ) (queued : List Bool) (words : List ℕ)
+      → Ready sh z next rides quiet nodes marks edges other-nodes other-marks other-edges table lists queued words
+      → Between sh z next (stateOf nodes marks edges) rides quiet s at old from at old from next rides quiet nodes marks edges other-nodes other-marks other-edges table lists queued words
+  begins next rides quiet s at old from nodes marks edges other-nodes other-marks other-edges lists queued words r =
       record { ready = r; size = refl; each = λ w a b H. record { window = w; same = refl; shape = refl; next-is = b; measured = refl; held = H } }
 
-  module _ (next₀ : ℕ) (st₀ : State) (rides₀ : Bool) (count₀ : ℕ) (list₀ : ℕ → ℕ) (s : List ℕ) (at : ℕ) (old : List ℕ) (from : ℕ)
-      (i : ℕ) (out : List ℕ) (j next : ℕ) (rides : Bool) (count : ℕ) (nodes marks edges other-nodes other-marks other-edges lists : List ℕ) (queued : List Bool) (words : List ℕ)
-      (B : Between sh z next₀ st₀ rides₀ count₀ list₀ s at old from i out j next rides count nodes marks edges other-nodes other-marks other-edges table lists queued words)
-      (answer : RecordAnswer) (new : List ℕ) (next' : ℕ) (rides' : Bool) (count' : ℕ) (new-nodes new-marks new-edges lists' : List ℕ) (queued' : List Bool) (words' : List ℕ)
-      (R : RecordOn (planOf z table) sh next (stateOf nodes marks edges) rides count (liveAt lists) s i out j answer new next' rides' count' new-nodes new-marks new-edges lists' queued' words') where
+  module _ (next₀ : ℕ) (st₀ : State) (rides₀ quiet₀ : Bool) (s : List ℕ) (at : ℕ) (old : List ℕ) (from : ℕ)
+      (i : ℕ) (out : List ℕ) (j next : ℕ) (rides quiet : Bool) (nodes marks edges other-nodes other-marks other-edges lists : List ℕ) (queued : List Bool) (words : List ℕ)
+      (B : Between sh z next₀ st₀ rides₀ quiet₀ s at old from i out j next rides quiet nodes marks edges other-nodes other-marks other-edges table lists queued words)
+      (answer : RecordAnswer) (new : List ℕ) (next' : ℕ) (rides' quiet' : Bool) (new-nodes new-marks new-edges lists' : List ℕ) (queued' : List Bool) (words' : List ℕ)
+      (R : RecordOn (planOf z table) sh next (stateOf nodes marks edges) rides quiet s i out j answer new next' rides' quiet' new-nodes new-marks new-edges lists' queued' words') where
     -- it stops with the window of before
-    pub stops : (l : Line) → answer ≡ over l → RoundsOn (planOf z table) sh next₀ st₀ rides₀ count₀ list₀ s at old from l i j new next (stateOf nodes marks edges)
+    pub stops : (l : Line) → answer ≡ over l → RoundsOn (planOf z table) sh next₀ st₀ rides₀ quiet₀ s at old from l i j new next (stateOf nodes marks edges)
     stops l k w a b H =
         let v = B .each w a b H in
         let r = R .each (v .window) (v .shape ∙ a) (v .next-is) (v .held) in
@@ -97,7 +96,7 @@ module _ (sh : Shape) (z : Sizes) (table : List ℕ) where
 
     -- it goes on, with the sets in each other's place
     module _ (b : Bytes s) (i' j' : ℕ) (k : answer ≡ to i' j') where
-      abbrev held : HeldAt P sh next (stateOf nodes marks edges) rides count (liveAt lists)
+      abbrev held : HeldAt P sh next (stateOf nodes marks edges) rides quiet
       held = B .ready .held
 
       passed-on : PassedOn (ofModel (sh .model)) s (held .0) i out j (R .each (held .0) (held .1) (held .2) (held .3) .window) i' new j'
@@ -109,11 +108,11 @@ module _ (sh : Shape) (z : Sizes) (table : List ℕ) where
       pub goes-inside : i' ≤ length s
       goes-inside = passed-on .inside
 
-      held-in : (v : Window) → Held (ofModel (sh .model)) P v (stateOf new-nodes new-marks new-edges) rides count' (liveAt lists') → Held (ofModel (sh .model)) P v (stateOf new-nodes new-marks new-edges) rides' count' (liveAt lists')
+      held-in : (v : Window) → Held (ofModel (sh .model)) P v (stateOf new-nodes new-marks new-edges) rides quiet' → Held (ofModel (sh .model)) P v (stateOf new-nodes new-marks new-edges) rides' quiet'
       held-in v H = rw (R .same) H
 
-      after : (w : Window) → w .shape ≡ sh → w .next ≡ next₀ → Held (ofModel (sh .model)) P w st₀ rides₀ count₀ list₀
-          → Along (ofModel (sh .model)) P w s at old from i' new j' next' (stateOf new-nodes new-marks new-edges) rides' count' (liveAt lists')
+      after : (w : Window) → w .shape ≡ sh → w .next ≡ next₀ → Held (ofModel (sh .model)) P w st₀ rides₀ quiet₀
+          → Along (ofModel (sh .model)) P w s at old from i' new j' next' (stateOf new-nodes new-marks new-edges) rides' quiet'
       after w a n H =
           let v = B .each w a n H in
           let r = R .each (v .window) (v .shape ∙ a) (v .next-is) (v .held) in
@@ -128,7 +127,7 @@ module _ (sh : Shape) (z : Sizes) (table : List ℕ) where
             held = held-in (r .window) (h .3);
           }
 
-      pub goes : Between sh z next₀ st₀ rides₀ count₀ list₀ s at old from i' new j' next' rides' count' new-nodes new-marks new-edges nodes marks edges table lists' queued' words'
+      pub goes : Between sh z next₀ st₀ rides₀ quiet₀ s at old from i' new j' next' rides' quiet' new-nodes new-marks new-edges nodes marks edges table lists' queued' words'
       goes =
           let m = B .ready in
           let r = R .each (held .0) (held .1) (held .2) (held .3) in
@@ -140,9 +139,8 @@ module _ (sh : Shape) (z : Sizes) (table : List ℕ) where
               filled = m .filled;
               long = R .long;
               free = m .long;
-              outside = held-outside next nodes marks edges rides count (liveAt lists) held;
+              outside = held-outside next nodes marks edges rides quiet held;
               scratch = R .scratch;
-              few = R .few;
               held = (r .window, h .0 ∙ held .1, h .1, held-in (r .window) (h .3));
             };
             size = passed-on .long ∙ B .size;

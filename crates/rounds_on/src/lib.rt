@@ -12,7 +12,6 @@ ghost use Rattle.shape.specs.Choice.{if};
 ghost use Rattle.decoding.specs.Answers.{lineOf};
 ghost use Rattle.flat.specs.Entries.{stateOf};
 ghost use Rattle.flat.specs.Plan.{planOf};
-ghost use Rattle.flat.specs.Step.{liveAt};
 ghost use Rattle.turn.specs.Ready.{Ready};
 ghost use Rattle.rounds_on.specs.Rounds.{RoundsOn};
 
@@ -45,8 +44,8 @@ pub fn rounds_on(
     queued: &mut [bool; PLANE],
     words: &mut [u32; PLANE],
 ) -> Rounds
-    requires { ⌜ Ready shape z (held .next) (held .rides) (held .live) (now nodes) (now marks) (now edges) (now «other_nodes») (now «other_marks») (now «other_edges») (now table) (now lists) (now queued) (now words) ⌝ }
-    ensures { λ r. ⌜ RoundsOn (planOf z (now (table .entry))) shape (held .next) (stateOf (now (nodes .entry)) (now (marks .entry)) (now (edges .entry))) (held .rides) (held .live) (liveAt (now (lists .entry))) (now (src .entry)) at (now (out .entry)) to (lineOf (r .ending)) (r .at) (r .to) (now (out .exit)) (r .next) (if (r .other) (stateOf (now («other_nodes» .exit)) (now («other_marks» .exit)) (now («other_edges» .exit))) (stateOf (now (nodes .exit)) (now (marks .exit)) (now (edges .exit)))) ⌝ }
+    requires { ⌜ Ready shape z (held .next) (held .rides) (held .quiet) (now nodes) (now marks) (now edges) (now «other_nodes») (now «other_marks») (now «other_edges») (now table) (now lists) (now queued) (now words) ⌝ }
+    ensures { λ r. ⌜ RoundsOn (planOf z (now (table .entry))) shape (held .next) (stateOf (now (nodes .entry)) (now (marks .entry)) (now (edges .entry))) (held .rides) (held .quiet) (now (src .entry)) at (now (out .entry)) to (lineOf (r .ending)) (r .at) (r .to) (now (out .exit)) (r .next) (if (r .other) (stateOf (now («other_nodes» .exit)) (now («other_marks» .exit)) (now («other_edges» .exit))) (stateOf (now (nodes .exit)) (now (marks .exit)) (now (edges .exit)))) ⌝ }
 {
     let mut here = held;
     let mut i = at;

@@ -24,7 +24,6 @@ use Rattle.node_step.specs.Words.{stirIn}
 use Rattle.next_list.specs.Next.{Next}
 use Rattle.next_list.specs.LawsNext.{follows}
 use Rattle.merge_step.specs.Pass.{AllLong, PassLeaves}
-use Rattle.shows.specs.Next.{Live}
 use Rattle.shows.specs.Pass.{Going}
 use Rattle.shows.specs.Run.{Underway, Over, run-starts, run-spent, run-rests, run-goes}
 use Rattle.run_steps.specs.Inside.{open-inside}
@@ -33,27 +32,25 @@ use Rattle.run_steps.specs.Inside.{open-inside}
 abbrev pub Shown : Plan → ℕ → State → Bool → ℕ → (ℕ → ℕ) → Type 0
 Shown P n st rides count list = (T : Table) × Suited T × (w : Window) × (size w ≡ n) × Going T P w st rides count list
 
--- whatever window was shown, by whatever table, with what is live in it
-abbrev pub Each : Plan → ℕ → State → Bool → ℕ → (ℕ → ℕ) → (Table → (ℕ → Bool) → Window → Type 0) → Type 0
-Each P n st rides count list A =
-    (T : Table) → Suited T → (w : Window) → size w ≡ n → Going T P w st rides count list → (listed : ℕ → Bool) → (rides ≡ true → Live T w listed) → A T listed w
+-- whatever window was shown, by whatever table
+abbrev pub Each : Plan → ℕ → State → Bool → ℕ → (ℕ → ℕ) → (Table → Window → Type 0) → Type 0
+Each P n st rides count list A = (T : Table) → Suited T → (w : Window) → size w ≡ n → Going T P w st rides count list → A T w
 
 -- THE RUN IS OVER
 abbrev pub Ended : Plan → ℕ → ℕ → State → Bool → ℕ → (ℕ → ℕ) → Bool → ℕ → State → Type 0
-Ended P n budget st rides count list rest made st' = Each P n st rides count list (λ T listed w. Over T P budget (stepsFrom T budget 0 w) rides listed w rest made st')
+Ended P n budget st rides count list rest made st' = Each P n st rides count list (λ T w. Over T P budget (stepsFrom T budget 0 w) rides w rest made st')
 
 -- a work list stands at 0 or at 4,608, and the next one at the other
 abbrev pub Half : ℕ → Type 0
 Half from = (from ≡ 0) ⊎ (from ≡ 4608)
 
--- IT GOES ON: so many steps were made; the list of live nodes is as it was
-pub record Middle (P : Plan) (n budget : ℕ) (st₀ : State) (rides : Bool) (count₀ : ℕ) (list₀ : ℕ → ℕ) (old : List ℕ)
+-- IT GOES ON: so many steps were made
+pub record Middle (P : Plan) (n budget : ℕ) (st₀ : State) (rides : Bool) (count₀ : ℕ) (list₀ : ℕ → ℕ)
     (made from count : ℕ) (nodes marks edges words lists : List ℕ) (queued : List Bool) : Type 0 where
   pub all-long : AllLong nodes marks edges words
   pub half : Half from
   pub queue : Queue from count lists queued
-  pub kept : (i : ℕ) → 9216 ≤ i → getD lists i 0 ≡ getD old i 0
-  pub each : Each P n st₀ rides count₀ list₀ (λ T listed w. Underway T P budget (stepsFrom T budget 0 w) rides listed w made (stateOf nodes marks edges) count (listAt lists from))
+  pub each : Each P n st₀ rides count₀ list₀ (λ T w. Underway T P budget (stepsFrom T budget 0 w) rides w made (stateOf nodes marks edges) count (listAt lists from))
 
 module _ (P : Plan) (n budget : ℕ) (rides : Bool) where
   abbrev nodesIn : Shape → ℕ
@@ -61,9 +58,9 @@ module _ (P : Plan) (n budget : ℕ) (rides : Bool) where
 
   -- some window is shown between two steps, too
   pub still-shown : (st₀ : State) (count₀ : ℕ) (list₀ : ℕ → ℕ) → Shown P n st₀ rides count₀ list₀ → (made count : ℕ) (st : State) (list : ℕ → ℕ)
-      → Each P n st₀ rides count₀ list₀ (λ T listed w. Underway T P budget (stepsFrom T budget 0 w) rides listed w made st count list) → Shown P n st rides count list
+      → Each P n st₀ rides count₀ list₀ (λ T w. Underway T P budget (stepsFrom T budget 0 w) rides w made st count list) → Shown P n st rides count list
   still-shown st₀ count₀ list₀ s made count st list u =
-      let v = u (s .0) (s .1) (s .2) (s .3) (s .4) (λ g. true) (λ t g l f. absurd (undone f)) in
+      let v = u (s .0) (s .1) (s .2) (s .3) (s .4) in
       (s .0, s .1, v .window, ap nodesIn (v .shape) ∙ s .3, v .going)
 
   module _ (st : State) (count : ℕ) (list : ℕ → ℕ) (s : Shown P n st rides count list) where
@@ -79,23 +76,21 @@ module _ (P : Plan) (n budget : ℕ) (rides : Bool) where
         subst (λ (m : ℕ). within m (overBy (list i) (P .off k)) ≡ true) (s .3) r
 
 -- a run stopped, with its last list on the queue
-pub record Stopped (P : Plan) (n budget : ℕ) (st₀ : State) (rides : Bool) (count₀ : ℕ) (list₀ : ℕ → ℕ) (old : List ℕ) (rest : Bool) (made from count : ℕ)
+pub record Stopped (P : Plan) (n budget : ℕ) (st₀ : State) (rides : Bool) (count₀ : ℕ) (list₀ : ℕ → ℕ) (rest : Bool) (made from count : ℕ)
     (nodes marks edges words lists : List ℕ) (queued : List Bool) : Type 0 where
   pub all-long : AllLong nodes marks edges words
   pub half : Half from
   pub queue : Queue from count lists queued
   pub places : Places n count (listAt lists from)
-  pub kept : (i : ℕ) → 9216 ≤ i → getD lists i 0 ≡ getD old i 0
   pub ended : Ended P n budget st₀ rides count₀ list₀ rest made (stateOf nodes marks edges)
 
 -- and with none on it
-pub record Finished (P : Plan) (n budget : ℕ) (st₀ : State) (rides : Bool) (count₀ : ℕ) (list₀ : ℕ → ℕ) (old : List ℕ) (rest : Bool) (made : ℕ)
+pub record Finished (P : Plan) (n budget : ℕ) (st₀ : State) (rides : Bool) (count₀ : ℕ) (list₀ : ℕ → ℕ) (rest : Bool) (made : ℕ)
     (nodes marks edges words lists : List ℕ) (queued : List Bool) : Type 0 where
   pub long : Long nodes marks edges
   pub words-long : length words ≡ 4608
   pub lists-long : length lists ≡ 13824
   pub empty : Empty queued
-  pub kept : (i : ℕ) → 9216 ≤ i → getD lists i 0 ≡ getD old i 0
   pub ended : Ended P n budget st₀ rides count₀ list₀ rest made (stateOf nodes marks edges)
 
 -- HALVES
@@ -111,20 +106,19 @@ half-apart from h = ⊎-elim (λ e. inl (omega arith)) (λ e. inr (omega arith))
 
 -- THE LOOP
 
-module _ (P : Plan) (n budget : ℕ) (rides : Bool) (st₀ : State) (count₀ : ℕ) (list₀ : ℕ → ℕ) (old : List ℕ) where
-  pub starts : (nodes marks edges words : List ℕ) (queued : List Bool) → st₀ ≡ stateOf nodes marks edges → list₀ ≡ listAt old 0 → AllLong nodes marks edges words → Queue 0 count₀ old queued
-      → Middle P n budget st₀ rides count₀ list₀ old 0 0 count₀ nodes marks edges words old queued
-  starts nodes marks edges words queued e f s q =
+module _ (P : Plan) (n budget : ℕ) (rides : Bool) (st₀ : State) (count₀ : ℕ) (list₀ : ℕ → ℕ) where
+  pub starts : (nodes marks edges words lists : List ℕ) (queued : List Bool) → st₀ ≡ stateOf nodes marks edges → list₀ ≡ listAt lists 0 → AllLong nodes marks edges words → Queue 0 count₀ lists queued
+      → Middle P n budget st₀ rides count₀ list₀ 0 0 count₀ nodes marks edges words lists queued
+  starts nodes marks edges words lists queued e f s q =
       record {
         all-long = s;
         half = inl refl;
         queue = q;
-        kept = λ i l. refl;
-        each = λ T S w a G listed live. rw (← e, ← f) (run-starts T P budget (stepsFrom T budget 0 w) rides listed w st₀ count₀ list₀ G live refl);
+        each = λ T S w a G. rw (← e, ← f) (run-starts T P budget (stepsFrom T budget 0 w) rides w st₀ count₀ list₀ G refl);
       }
 
   module _ (s : Shown P n st₀ rides count₀ list₀) (made from count : ℕ) (nodes marks edges words lists : List ℕ) (queued : List Bool)
-      (M : Middle P n budget st₀ rides count₀ list₀ old made from count nodes marks edges words lists queued) where
+      (M : Middle P n budget st₀ rides count₀ list₀ made from count nodes marks edges words lists queued) where
     abbrev st : State
     st = stateOf nodes marks edges
 
@@ -138,15 +132,14 @@ module _ (P : Plan) (n budget : ℕ) (rides : Bool) (st₀ : State) (count₀ : 
     now-places = shown-places P n budget rides st count list now-shown
 
     -- the budget is spent
-    pub over-spent : budget ≤ made → Stopped P n budget st₀ rides count₀ list₀ old false made from count nodes marks edges words lists queued
+    pub over-spent : budget ≤ made → Stopped P n budget st₀ rides count₀ list₀ false made from count nodes marks edges words lists queued
     over-spent l =
         record {
           all-long = M .all-long;
           half = M .half;
           queue = M .queue;
           places = now-places;
-          kept = M .kept;
-          ended = λ T S w a G listed live. run-spent T P budget (stepsFrom T budget 0 w) rides listed w made st count list (M .each T S w a G listed live) l;
+          ended = λ T S w a G. run-spent T P budget (stepsFrom T budget 0 w) rides w made st count list (M .each T S w a G) l;
         }
 
     -- ONE STEP
@@ -157,27 +150,25 @@ module _ (P : Plan) (n budget : ℕ) (rides : Bool) (st₀ : State) (count₀ : 
       passed-in : (w : Window) → size w ≡ n → Passed P st count list (size w) st'
       passed-in w a = subst (λ (m : ℕ). Passed P st count list m st') (sym a) (L .passed)
 
-      pub over-rests : busy ≡ false → Stopped P n budget st₀ rides count₀ list₀ old true (made + 1) from count nodes' marks' edges' words' lists queued
+      pub over-rests : busy ≡ false → Stopped P n budget st₀ rides count₀ list₀ true (made + 1) from count nodes' marks' edges' words' lists queued
       over-rests b =
           record {
             all-long = L .all-long;
             half = M .half;
             queue = M .queue;
             places = now-places;
-            kept = M .kept;
-            ended = λ T S w a G listed live.
-                run-rests T P budget (stepsFrom T budget 0 w) rides listed w S made st count list (M .each T S w a G listed live) l st' (passed-in w a) (sym (L .is-busy) ∙ b);
+            ended = λ T S w a G.
+                run-rests T P budget (stepsFrom T budget 0 w) rides w S made st count list (M .each T S w a G) l st' (passed-in w a) (sym (L .is-busy) ∙ b);
           }
 
-      pub goes-same : busy ≡ true → rides ≡ false → Middle P n budget st₀ rides count₀ list₀ old (made + 1) from count nodes' marks' edges' words' lists queued
+      pub goes-same : busy ≡ true → rides ≡ false → Middle P n budget st₀ rides count₀ list₀ (made + 1) from count nodes' marks' edges' words' lists queued
       goes-same b f =
           record {
             all-long = L .all-long;
             half = M .half;
             queue = M .queue;
-            kept = M .kept;
-            each = λ T S w a G listed live.
-                run-goes T P budget (stepsFrom T budget 0 w) rides listed w S made st count list (M .each T S w a G listed live) l st' (passed-in w a) count list
+            each = λ T S w a G.
+                run-goes T P budget (stepsFrom T budget 0 w) rides w S made st count list (M .each T S w a G) l st' (passed-in w a) count list
                 (λ t. absurd (undone (sym t ∙ f))) (λ t. (refl, λ i h. refl)) (sym (L .is-busy) ∙ b);
           }
 
@@ -187,16 +178,15 @@ module _ (P : Plan) (n budget : ℕ) (rides : Bool) (st₀ : State) (count₀ : 
 
       pub goes-on : busy ≡ true → rides ≡ true → (to more : ℕ) (lists' : List ℕ) (queued' : List Bool) → to ≡ 4608 - from
           → Next P (λ e. growthOf (getD edges' e 0)) n list (λ i. stirIn (getD words' i 0)) count to more lists lists' queued'
-          → Middle P n budget st₀ rides count₀ list₀ old (made + 1) to more nodes' marks' edges' words' lists' queued'
+          → Middle P n budget st₀ rides count₀ list₀ (made + 1) to more nodes' marks' edges' words' lists' queued'
       goes-on b t to more lists' queued' e N =
           let h = half-low from (M .half) in
           record {
             all-long = L .all-long;
             half = subst Half (sym e) (half-other from (M .half));
             queue = N .queue;
-            kept = λ i j. N .extends .behind i (omega arith) ∙ M .kept i j;
-            each = λ T S w a G listed live.
-                run-goes T P budget (stepsFrom T budget 0 w) rides listed w S made st count list (M .each T S w a G listed live) l st' (passed-in w a) more (listAt lists' to)
+            each = λ T S w a G.
+                run-goes T P budget (stepsFrom T budget 0 w) rides w S made st count list (M .each T S w a G) l st' (passed-in w a) more (listAt lists' to)
                 (λ r.
                 subst (λ (m : ℕ). Follows P st count list m more (listAt lists' to)) (sym a)
                 (follows P (λ e. growthOf (getD edges' e 0)) n list (λ i. stirIn (getD words' i 0)) to lists st count more lists' queued' N (λ e. L .passed .growth e) (L .stirring)))

@@ -45,7 +45,7 @@ fn steps(
     requires { ⌜ AllLong (now nodes) (now marks) (now edges) (now words) ⌝ }
     requires { ⌜ Queue 0 listed (now lists) (now queued) ⌝ }
     requires { ⌜ Shown (planOf z (now table)) (z .nodes) (stateOf (now nodes) (now marks) (now edges)) rides listed (listAt (now lists) 0) ⌝ }
-    ensures { λ r. ⌜ Stopped (planOf z (now (table .entry))) (z .nodes) budget (stateOf (now (nodes .entry)) (now (marks .entry)) (now (edges .entry))) rides listed (listAt (now (lists .entry)) 0) (now (lists .entry)) (r .rest) (r .count) (r .from) (r .listed) (now (nodes .exit)) (now (marks .exit)) (now (edges .exit)) (now (words .exit)) (now (lists .exit)) (now (queued .exit)) ⌝ }
+    ensures { λ r. ⌜ Stopped (planOf z (now (table .entry))) (z .nodes) budget (stateOf (now (nodes .entry)) (now (marks .entry)) (now (edges .entry))) rides listed (listAt (now (lists .entry)) 0) (r .rest) (r .count) (r .from) (r .listed) (now (nodes .exit)) (now (marks .exit)) (now (edges .exit)) (now (words .exit)) (now (lists .exit)) (now (queued .exit)) ⌝ }
 {
     let mut made: u32 = 0;
     let mut from: usize = 0;
@@ -94,7 +94,7 @@ pub fn run(
     requires { ⌜ (Long (now nodes) (now marks) (now edges)) × (length (now words) ≡ 4608) ⌝ }
     requires { ⌜ Queue 0 listed (now lists) (now queued) ⌝ }
     requires { ⌜ Shown (planOf z (now table)) (z .nodes) (stateOf (now nodes) (now marks) (now edges)) rides listed (listAt (now lists) 0) ⌝ }
-    ensures { λ r. ⌜ Finished (planOf z (now (table .entry))) (z .nodes) budget (stateOf (now (nodes .entry)) (now (marks .entry)) (now (edges .entry))) rides listed (listAt (now (lists .entry)) 0) (now (lists .entry)) (r .rest) (r .count) (now (nodes .exit)) (now (marks .exit)) (now (edges .exit)) (now (words .exit)) (now (lists .exit)) (now (queued .exit)) ⌝ }
+    ensures { λ r. ⌜ Finished (planOf z (now (table .entry))) (z .nodes) budget (stateOf (now (nodes .entry)) (now (marks .entry)) (now (edges .entry))) rides listed (listAt (now (lists .entry)) 0) (r .rest) (r .count) (now (nodes .exit)) (now (marks .exit)) (now (edges .exit)) (now (words .exit)) (now (lists .exit)) (now (queued .exit)) ⌝ }
 {
     let stop = steps(
         z,

@@ -46,7 +46,7 @@ fn decode_fresh(shape: Shape, src: &[u8], at: usize, out: &mut [u8], to: usize) 
     let held = Held {
         next: extent::sheets(shape) as u32,
         rides: true,
-        live: 0,
+        quiet: true,
     };
     rounds_on::rounds_on(
         shape,
@@ -69,7 +69,7 @@ fn decode_fresh(shape: Shape, src: &[u8], at: usize, out: &mut [u8], to: usize) 
     )
 }
 
-// Decodes round after round of a well-formed window at rest. All its nodes are taken for live.
+// Decodes round after round of a well-formed window at rest. Whether a merging step would change a node is not known, so the first turn takes all.
 fn decode_resting(w: Window, src: &[u8], at: usize, out: &mut [u8], to: usize) -> RoundsGiven
     requires { ⌜ wellFormed (ofModel (w .shape .model)) w ≡ true ⌝ }
     requires { ⌜ isRest (w .stage) ≡ true ⌝ }
@@ -85,7 +85,6 @@ fn decode_resting(w: Window, src: &[u8], at: usize, out: &mut [u8], to: usize) -
     unpack::unpack(w, &mut nodes, &mut marks, &mut edges, &table);
     let rides = unpack::rides(z, false, &nodes, &edges, &table);
     let mut lists = [0; LISTS];
-    starting::all_live(z, &mut lists);
     let mut other_nodes = [0; PLANE];
     let mut other_marks = [0; PLANE];
     let mut other_edges = [NO_EDGE; PLANES];
@@ -94,7 +93,7 @@ fn decode_resting(w: Window, src: &[u8], at: usize, out: &mut [u8], to: usize) -
     let held = Held {
         next: w.next,
         rides,
-        live: z.nodes,
+        quiet: false,
     };
     let r = rounds_on::rounds_on(
         shape,

@@ -1,31 +1,38 @@
--- A FRESH WINDOW: no sheet is there, so no edge is; pointers ride, and nothing is live. Assumes nothing.
-use Prim.Native.Nat.{ℕ, _<_}
+-- A FRESH WINDOW: no sheet is there, so no edge is; pointers ride, and every node is quiet. Assumes nothing.
+use Prim.Native.Nat.{ℕ, _+_, _<_}
 use native.Mathlib.Omega.{arith}
-use mathlib.Core.Path.{_≡_, sym, _∙_, ap}
-use mathlib.Core.Bool.{Bool, true, false}
-use lib.ListN.{getD}
+use mathlib.Core.Path.{_≡_, refl, sym, _∙_, ap}
+use mathlib.Core.Bool.{Bool, true, false, _&&_}
+use lib.ListN.{length, getD}
+use Rattle.refusal.specs.Laws.{undone}
 use Rattle.shape.specs.Choice.{if}
 use Rattle.shape.specs.LawsIndex.{numbers-le, nodes-max}
+use Rattle.shape.specs.Nodes.{numberOf}
 use Rattle.shape.specs.Ranges.{ranged}
 use Rattle.shape.specs.Sizes.{inRange, nodesOf}
 use Rattle.shape.specs.declared.Shape.{Shape}
 use Rattle.steps.specs.Steps.{Table, namer, slotIn}
 use Rattle.window.specs.Fresh.{slotsOf, freshWindow}
-use Rattle.window.specs.LawsLists.{and-not, getD-same}
-use Rattle.window.specs.Window.{size, place, to}
+use Rattle.window.specs.Lists.{byPlace}
+use Rattle.window.specs.LawsLists.{and-no, getD-same}
+use Rattle.window.specs.Merging.{nothing, syncedActive, stepped, seen, stepAt}
+use Rattle.window.specs.Window.{alone, size, at, place, detector, to}
 use Rattle.window.specs.declared.Mark.the-variants.{Root}
 use Rattle.window.specs.declared.Node.{Node}
+use Rattle.window.specs.declared.Seen.{Seen}
 use Rattle.window.specs.declared.Window.{Window}
 use Rattle.closure.specs.After.{fresh-at}
 use Rattle.closure.specs.Edges.{edge-absent}
 use Rattle.closure.specs.Facts.{own-lt}
+use Rattle.closure.specs.Sight.{seen-none}
 use Rattle.flat.specs.Codes.{markOf, noEdge}
 use Rattle.flat.specs.Entries.{State, plane, entry, cell, within}
 use Rattle.flat.specs.Plan.{Plan}
 use Rattle.shows.specs.Planned.{Planned}
 use Rattle.shows.specs.Shows.{Shows}
-use Rattle.shows.specs.Riding.{opens, Riding}
-use Rattle.shows.specs.Next.{Live}
+use Rattle.shows.specs.Riding.{Riding}
+use Rattle.shows.specs.Quiet.{settled, AllQuiet}
+use Rattle.shows.specs.Calm.{step-calm}
 use Rattle.shows.specs.Read.{node-within-entry}
 use Rattle.shows.specs.Same.{mark-number}
 
@@ -39,6 +46,14 @@ pub record Blank (P : Plan) (n : ℕ) (st : State) : Type 0 where
   pub growth : (kind x : ℕ) → kind < P .kinds → x < plane → st .growth (cell kind x) ≡ noEdge
   pub correction : (kind x : ℕ) → kind < P .kinds → within n x ≡ true → st .correction (cell kind x) ≡ false
 
+-- a cluster of its own that sees nothing stays as it is
+alone-still : (f : ℕ → Seen) (K own : ℕ) (det : Bool) (n : Node) (m : ℕ) → n ≡ alone m false → ((j : ℕ) → f j ≡ nothing) → stepped own det n (byPlace K f) ≡ settled n
+unfolding syncedActive
+alone-still f K own det n m e none =
+    rw e
+    (step-calm f K own det (alone m false) m refl (λ j t. absurd (undone (sym t ∙ ap (λ (s : Seen). s .grown) (none j))))
+    (and-no (det && false) false refl) (and-no det false refl) (λ j. ap (λ (s : Seen). s .pushes) (none j)))
+
 module _ (T : Table) (sh : Shape) where
   abbrev w : Window
   w = freshWindow T sh
@@ -47,25 +62,18 @@ module _ (T : Table) (sh : Shape) where
   unfolding freshWindow
   none-there p g = edge-absent T (sh .height) (sh .distance) _ p (place w g) (omega arith)
 
-  fresh-shut : (g p : ℕ) → opens T w g p ≡ false
-  fresh-shut g p = and-not (to w T p g .there) _ (none-there p g)
-
   pub fresh-riding : Riding T (freshWindow T sh)
   unfolding freshWindow
   fresh-riding g l n = absurd (n (ap (λ (y : Node). y .pointer) (fresh-at T sh g l)))
 
-  pub fresh-live : (listed : ℕ → Bool) → Live T (freshWindow T sh) listed
-  unfolding freshWindow
-  fresh-live listed g l n =
-      let a = fresh-at T sh g l in
-      record {
-        shut = λ p. fresh-shut g p;
-        pointer = ap (λ (y : Node). y .pointer) a;
-        active = ap (λ (y : Node). y .active) a;
-        defect = ap (λ (y : Node). y .defect) a;
-        number = _;
-        mark = ap (λ (y : Node). y .mark) a;
-      }
+  fresh-still : (g : ℕ) → g < size w → stepAt T w g ≡ settled (at w g)
+  unfolding stepAt freshWindow
+  fresh-still g l =
+      alone-still (seen T w g) (length (T .steps)) (numberOf (sh .height) (sh .distance) (place w g)) (detector w g) (at w g) (numberOf (sh .height) (sh .distance) (place w g)) (fresh-at T sh g l)
+      (λ j. seen-none T w g j (none-there (j + 1) g))
+
+  pub fresh-quiet : AllQuiet T (freshWindow T sh)
+  fresh-quiet g l = record { still = fresh-still g l; bits = λ p e. absurd (undone (sym e ∙ none-there p g)) }
 
   module _ (e : inRange (sh .height) (sh .distance) ≡ true) (P : Plan) (N : Planned T (sh .height) (sh .distance) P) (st : State) (A : Blank P (nodesOf (sh .height) (sh .distance)) st) where
     pub fresh-shows : Shows T (freshWindow T sh) st

@@ -1,5 +1,5 @@
--- GROW: an edge gains a half for each active end, no edge stays none, and bottom nodes whose pointer has a D are cut. Pointers ride after it,
--- and a node that opens is a neighbour over an open edge of an active one. Assumes nothing.
+-- GROW: an edge gains a half for each active end, no edge stays none, and bottom nodes whose pointer has a D are cut. What
+-- was open stays open, and pointers ride after it. Assumes nothing.
 use Prim.Native.Nat.{ℕ, _+_, _-_, _≤_, _<_, min}
 use native.Mathlib.Omega.{arith}
 use mathlib.Core.Path.{_≡_, sym, _∙_, ap, ap₂, subst}
@@ -7,16 +7,14 @@ use mathlib.Core.Bool.{Bool, true, false, _&&_}
 use borrow.Author.Tests.{eqb-true, eq-eqb, ne-eqb}
 use lib.Dec.{leb, eqb}
 use lib.ListN.{length, getD}
-use Rattle.refusal.specs.Laws.{undone}
 use Rattle.shape.specs.Choice.{if, if-false, whether}
 use Rattle.shape.specs.Ranges.{halves, both}
 use Rattle.steps.specs.Proper.{points}
-use Rattle.steps.specs.Steps.{Table, step, falls, namer, slotIn}
+use Rattle.steps.specs.Steps.{Table, step, namer, slotIn}
 use Rattle.steps.specs.Suited.{Suited, namer-is, namer-back}
 use Rattle.window.specs.Grow.{gains, cut, grown}
 use Rattle.window.specs.Lists.{bit}
-use Rattle.window.specs.LawsLists.{and-no}
-use Rattle.window.specs.Window.{size, sheet, pointed, at, place, bottom, to}
+use Rattle.window.specs.Window.{size, sheet, pointed, at, place, to}
 use Rattle.window.specs.declared.Node.{Node}
 use Rattle.window.specs.declared.Window.{Window}
 use Rattle.closure.specs.After.{orphan, cut-at, uncut-at, grown-slot}
@@ -29,10 +27,8 @@ use Rattle.flat.specs.Plan.{Plan}
 use Rattle.flat.specs.Rule.{growthAfter}
 use Rattle.shows.specs.Planned.{Planned}
 use Rattle.shows.specs.Shows.{nodeAt, held, Shows}
-use Rattle.shows.specs.Riding.{opens, neighbour, Riding, back-opens}
-use Rattle.shows.specs.Quiet.{Inert}
-use Rattle.shows.specs.Next.{Live}
-use Rattle.shows.specs.Read.{node-within-entry, own-slot, other-slot, edge-most, named-way, flat-node}
+use Rattle.shows.specs.Riding.{opens, neighbour, Riding}
+use Rattle.shows.specs.Read.{node-within-entry, own-slot, other-slot, named-way, flat-node}
 use Rattle.shows.specs.Sheets.{bottom-is}
 
 -- BY ENTRIES
@@ -121,55 +117,6 @@ module _ (T : Table) (S : Suited T) (w : Window) (k : Kept T w) where
       (λ o.
       let e : at (grown T w) g .pointer ≡ at w g .pointer = ap (λ (x : Node). x .pointer) (uncut-at T w g l o) in
       rw e (stays-open g (at w g .pointer) l (A g l (λ z. n (e ∙ z)) o)))
-
-  -- LIVE NODES: those that were, and what lies over open edges of active ones
-  module _ (listed listed' : ℕ → Bool) (live : Live T w listed)
-      (kept : (g : ℕ) → g < size w → listed g ≡ true → listed' g ≡ true)
-      (opened : (g p : ℕ) → g < size w → listed g ≡ true → at w g .active ≡ true → opens T (grown T w) g p ≡ true → listed' (to w T p g .node) ≡ true) where
-    unlisted : (g : ℕ) → g < size w → listed' g ≡ false → listed g ≡ false
-    unlisted g l n = whether (listed g) (λ t. absurd (undone (sym (kept g l t) ∙ n))) (λ t. t)
-
-    not-all : (a : Bool) → a ≡ false → bit a ≡ 0
-    not-all a e = rw e
-
-    shut : (g p : ℕ) → g < size w → listed' g ≡ false → Inert T w g → opens T (grown T w) g p ≡ false
-    unfolding grown
-    shut g p l n i = whether (opens T (grown T w) g p) is-open (λ o. o)
-      where
-        is-open : opens T (grown T w) g p ≡ true → opens T (grown T w) g p ≡ false
-        is-open o =
-            let a = halves (to w T p g .there) _ o in
-            let e = a .0 in
-            let u = to w T p g .node in
-            let lu = node-within T w (facts T w (k .formed) .ranged) p g e in
-            whether (at w u .active)
-            (λ t.
-            let c = whether (listed u) (λ y. y) (λ y. absurd (undone (sym t ∙ live u lu y .active))) in
-            absurd (undone (sym (opened u (step T p .back) lu c t (back-opens T S (grown T w) g p o)) ∙ ap listed' (node-back T w g p e S) ∙ n)))
-            (λ t.
-            let x = edge-gains T S w k g p l e in
-            let y : getD (grown T w .growth) (to w T p g .slot) 0 ≡ 2 = eqb-true _ 2 (a .1) in
-            let b0 = not-all (at w g .active) (i .active) in
-            let b1 = not-all (at w u .active) t in
-            let s = i .shut p in
-            let most = edge-most T S w (facts T w (k .formed)) g p l e in
-            let z : eqb (getD (w .growth) (to w T p g .slot) 0) 2 ≡ true = eq-eqb (getD (w .growth) (to w T p g .slot) 0) 2 (omega arith) in
-            absurd (undone (sym (both _ _ e z) ∙ s)))
-
-    pub live-grown : Live T (grown T w) listed'
-    unfolding grown
-    live-grown g l n =
-        let i = live g l (unlisted g l n) in
-        let o : orphan T w g ≡ false = and-no (bottom w g) _ (ap (λ (p : ℕ). falls T p) (i .pointer)) in
-        let e = uncut-at T w g l o in
-        record {
-          shut = λ p. shut g p l n i;
-          pointer = ap (λ (x : Node). x .pointer) e ∙ i .pointer;
-          active = ap (λ (x : Node). x .active) e ∙ i .active;
-          defect = ap (λ (x : Node). x .defect) e ∙ i .defect;
-          number = i .number;
-          mark = ap (λ (x : Node). x .mark) e ∙ i .mark;
-        }
 
 -- THE STATE AFTER IT
 

@@ -7,6 +7,7 @@ pub mod Riding
 -- nodes that a step leaves as they are, and so what a work list may leave out
 pub mod Quiet
 pub mod Next
+pub mod Calm
 -- the machine reads what stands in the window, and its rule is the window's
 pub mod Read
 pub mod Same
@@ -27,7 +28,8 @@ pub mod Unpack
 pub mod Fresh
 pub mod Leaves
 -- a turn, from rest to rest
-pub mod Lively
+pub mod Rested
+pub mod Changed
 pub mod Turn
 pub mod Run
 -- a window of unknown origin

@@ -1,5 +1,5 @@
 -- ROUND, edge by edge: an edge that is not new stands one sheet lower as it stood, and a new one has not grown. So pointers over open edges
--- stay over open edges, but for those that lead out at the bottom, and what was live stays so one sheet lower. Assumes nothing.
+-- stay over open edges, but for those that lead out at the bottom. Assumes nothing.
 use Prim.Native.Nat.{ℕ, _+_, _-_, _≤_, _<_, min}
 use native.Mathlib.Omega.{arith}
 use mathlib.Core.Path.{_≡_, refl, sym, _∙_, ap, ap₂, subst}
@@ -11,6 +11,7 @@ use lib.Dec.{eqb}
 use lib.ListN.{getD}
 use Rattle.refusal.specs.Laws.{undone}
 use Rattle.shape.specs.Choice.{if, whether, order}
+use Rattle.shape.specs.Nodes.{indexOf}
 use Rattle.shape.specs.Ranges.{halves, both}
 use Rattle.shape.specs.Sizes.{sheetsOf}
 use Rattle.shape.specs.declared.Place.{Place}
@@ -19,23 +20,21 @@ use Rattle.steps.specs.LawsStep.{across-back}
 use Rattle.steps.specs.Steps.{Table, step, goes, across, falls, namer}
 use Rattle.steps.specs.Suited.{Suited, namer-back}
 use Rattle.steps.specs.declared.Step.{Step}
-use Rattle.window.specs.Round.{atTop, lowered, loweredNumber, topNode, rounded}
+use Rattle.window.specs.Round.{atTop, topNode, rounded}
 use Rattle.window.specs.Window.{size, sheet, present, at, place, bottom, to}
 use Rattle.window.specs.declared.Node.{Node}
 use Rattle.window.specs.declared.Window.{Window}
 use Rattle.closure.specs.After.{top-at, sunk-at, top-slot, sunk-slot}
 use Rattle.closure.specs.Closure.{Kept}
-use Rattle.closure.specs.Edges.{edge, edge-there, edge-slot}
+use Rattle.closure.specs.Edges.{edge, edge-there, edge-to, edge-slot}
 use Rattle.closure.specs.Facts.{Facts, facts, node-within}
 use Rattle.closure.specs.Lists.{either, other}
-use Rattle.closure.specs.Lower.{lower, above-lt, above-place, above-depth, joins-lower, joins-in, joins-present, top}
-use Rattle.closure.specs.LowerSlots.{slot-falls}
+use Rattle.closure.specs.Lower.{lower, index-lower, above-lt, above-place, above-depth, joins-lower, joins-in, joins-present, top}
+use Rattle.closure.specs.LowerSlots.{across-lower, slot-falls}
 use Rattle.closure.specs.Ways.{direction, node-place}
 use Rattle.flat.specs.Codes.{noEdge}
 use Rattle.shows.specs.Shows.{held}
 use Rattle.shows.specs.Riding.{opens, Riding, back-opens}
-use Rattle.shows.specs.Quiet.{Inert}
-use Rattle.shows.specs.Next.{Live}
 use Rattle.shows.specs.Named.{same-test}
 use Rattle.shows.specs.Read.{own-slot, other-slot}
 use Rattle.shows.specs.Grown.{Aloft}
@@ -148,7 +147,7 @@ module _ (T : Table) (S : Suited T) (w : Window) (k : Kept T w) (bytes : List �
   above a g l e = above-lt w (F .ranged) a g e l
 
   -- OPEN EDGES: none from the top sheet
-  top-shut : (g p : ℕ) → g < size w → g < sheet w → opens T w' g p ≡ false
+  pub top-shut : (g p : ℕ) → g < size w → g < sheet w → opens T w' g p ≡ false
   unfolding rounded
   top-shut g p l x = whether (opens T w' g p) (λ o. absurd (is-open o)) (λ o. o)
     where
@@ -228,7 +227,19 @@ module _ (T : Table) (S : Suited T) (w : Window) (k : Kept T w) (bytes : List �
             same-lt : {a b c : ℕ} → a ≡ b → b < c → a < c
             same-lt a b = omega arith
 
-    -- and one that was open above is open below, if it does not lead out
+    -- and leads to the node below
+    pub node-lower : opens T w' g p ≡ true → to w' T p g .node ≡ to w T p a .node + sheet w
+    unfolding rounded
+    node-lower o =
+        let i = edge T h d (present w) p place₁ (halves (to w T p a .there) _ (open-lower o) .0) in
+        let j = edge T h d k' p (place w g) (halves (to w' T p g .there) _ o .0) in
+        edge-to T h d k' p (place w g) j
+        ∙ ap (λ (q : Place). indexOf h d (across (step T p) q)) sinks
+        ∙ ap (indexOf h d) (across-lower (step T p) place₁ (i .sheet))
+        ∙ index-lower h d (across (step T p) place₁)
+        ∙ ap (λ (v : ℕ). v + sheet w) (sym (edge-to T h d (present w) p place₁ i))
+
+    -- one that was open above is open below, if it does not lead out
     pub open-sinks : opens T w a p ≡ true → (bottom w g && falls T p) ≡ false → opens T w' g p ≡ true
     unfolding rounded
     open-sinks o n =
@@ -250,37 +261,3 @@ module _ (T : Table) (S : Suited T) (w : Window) (k : Kept T w) (bytes : List �
       (λ a x.
       let e : at w' g .pointer ≡ at w a .pointer = ap (λ (y : Node). y .pointer) (sunk-at T w g l bytes a x) in
       rw e (open-sinks a g (at w a .pointer) l x (R a (above a g l x) (λ z. n (e ∙ z))) (ap (λ (p : ℕ). bottom w g && falls T p) (sym e) ∙ o)))
-
-  -- LIVE NODES one sheet lower, and the new defects
-  module _ (listed listed' : ℕ → Bool) (live : Live T w listed)
-      (sunken : (a g : ℕ) → g < size w → g ≡ a + sheet w → listed a ≡ true → listed' g ≡ true)
-      (received : (g : ℕ) → g < size w → g < sheet w → at (rounded T w bytes) g .defect ≡ true → listed' g ≡ true) where
-    top-inert : (g : ℕ) → g < size w → g < sheet w → listed' g ≡ false → Inert T w' g
-    unfolding topNode
-    top-inert g l x n =
-        let e = top-at T w g l bytes x in
-        record {
-          shut = λ p. top-shut g p l x;
-          pointer = ap (λ (y : Node). y .pointer) e;
-          active = ap (λ (y : Node). y .active) e;
-          defect = whether (at w' g .defect) (λ t. absurd (undone (sym (received g l x t) ∙ n))) (λ t. t);
-          number = _;
-          mark = ap (λ (y : Node). y .mark) e;
-        }
-
-    low-inert : (a g : ℕ) → g < size w → g ≡ a + sheet w → listed' g ≡ false → Inert T w' g
-    low-inert a g l x n =
-        let e = sunk-at T w g l bytes a x in
-        let i = live a (above a g l x) (whether (listed a) (λ t. absurd (undone (sym (sunken a g l x t) ∙ n))) (λ t. t)) in
-        record {
-          shut = λ p. whether (opens T w' g p) (λ o. absurd (undone (sym (open-lower a g p l x o) ∙ i .shut p))) (λ o. o);
-          pointer = ap (λ (y : Node). y .pointer) e ∙ i .pointer;
-          active = ap (λ (y : Node). y .active) e ∙ i .active;
-          defect = ap (λ (y : Node). y .defect) e ∙ i .defect;
-          number = loweredNumber h d (i .number);
-          mark = ap (λ (y : Node). y .mark) e ∙ ap (lowered h d) (i .mark);
-        }
-
-    pub live-round : Live T (rounded T w bytes) listed'
-    unfolding rounded
-    live-round g l n = by-sheet g (λ x. top-inert g l x n) (λ a x. low-inert a g l x n)

@@ -1,5 +1,5 @@
 -- THE STEP AFTER A STEP, where pointers ride: they still do; a node that did not move, and whose neighbours over open edges did not, is quiet
--- in the next step; so a list of the nodes that moved and of their neighbours over open edges covers it. Inert nodes stay inert. Assumes nothing.
+-- in the next step; so a list of the nodes that moved and of their neighbours over open edges covers it. Assumes nothing.
 use Prim.Native.Nat.{ℕ, _+_, _-_, _<_}
 use mathlib.Core.Path.{_≡_, refl, sym, _∙_, ap}
 use mathlib.Core.Bool.{Bool, true, false}
@@ -28,7 +28,7 @@ use Rattle.closure.specs.Sight.{seen-grown}
 use Rattle.closure.specs.Ways.{direction}
 use Rattle.shows.specs.Open.{stepped-same}
 use Rattle.shows.specs.Riding.{opens, neighbour, Riding, sendsAlong, viewed-same, glimpse, back-opens, back-node, pushed-over, ridden, step-glimpse}
-use Rattle.shows.specs.Quiet.{settled, Inert, Quiet, Covers, moved, still-by, quiet-sends, sends-none, inert-quiet}
+use Rattle.shows.specs.Quiet.{settled, Quiet, Covers, moved, still-by, quiet-sends, sends-none}
 
 -- the pointer that flooding leaves is the one it had, C, or along an edge of growth 2
 module _ (Good : ℕ → Type 0) (centre : Good 0) (f : ℕ → Seen) (along : (k : ℕ) → f k .grown ≡ true → Good (k + 1)) where
@@ -134,29 +134,3 @@ module _ (T : Table) (S : Suited T) (w : Window) (k : Kept T w) (R : Riding T w)
       where
         still : (v : ℕ) → (moved T w v ≡ true → ⊥) → Still v
         still v never = whether (moved T w v) (λ m. absurd (never m)) (λ m. still-by T w v m)
-
-  -- INERT NODES stay so
-  inert-merged : (g : ℕ) → g < size w → Inert T w g → Inert T (merged T w) g
-  unfolding merged
-  inert-merged g l i =
-      let e = still-at g l (inert-quiet T S w F R g l i .still) in
-      record {
-        shut = i .shut;
-        pointer = ap (λ (n : Node). n .pointer) e ∙ i .pointer;
-        active = ap (λ (n : Node). n .active) e ∙ i .active;
-        defect = ap (λ (n : Node). n .defect) e ∙ i .defect;
-        number = i .number;
-        mark = ap (λ (n : Node). n .mark) e ∙ i .mark;
-      }
-
--- LIVE: every node that the list does not name is inert
-abbrev pub Live : Table → Window → (ℕ → Bool) → Type 0
-Live T w listed = (g : ℕ) → g < size w → listed g ≡ false → Inert T w g
-
-module _ (T : Table) (S : Suited T) (w : Window) (k : Kept T w) (R : Riding T w) (listed : ℕ → Bool) (live : Live T w listed) where
-  pub live-covers : Covers T w listed
-  live-covers g l n = inert-quiet T S w (facts T w (k .formed)) R g l (live g l n)
-
-  pub live-merged : Live T (merged T w) listed
-  unfolding merged
-  live-merged g l n = inert-merged T S w k R g l (live g l n)

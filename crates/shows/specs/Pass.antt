@@ -22,20 +22,20 @@ use Rattle.window.specs.declared.Window.{Window}
 use Rattle.closure.specs.After.{merged-at, flipped-slot}
 use Rattle.closure.specs.Closure.{Kept, kept-merging}
 use Rattle.closure.specs.Facts.{Facts, facts, node-within}
-use Rattle.closure.specs.Lists.{any-at}
+use Rattle.closure.specs.Lists.{either, other, any-at}
 use Rattle.closure.specs.Scan.{arrivals-none}
 use Rattle.closure.specs.Sight.{seen-edge, seen-none}
 use Rattle.closure.specs.Ways.{direction}
 use Rattle.flat.specs.Entries.{State, entry, cell, overBy}
 use Rattle.flat.specs.Plan.{Plan}
-use Rattle.flat.specs.Rule.{arrived, sender, defectAfter, busyAt, stirs, correctionAfter}
+use Rattle.flat.specs.Rule.{floodOf, arrived, sender, defectAfter, busyAt, stirs, correctionAfter}
 use Rattle.flat.specs.Step.{named, Places, sending, busyIn, Passed, Follows}
 use Rattle.shows.specs.Planned.{Planned}
 use Rattle.shows.specs.Shows.{nodeAt, Shows}
 use Rattle.shows.specs.Open.{arrivals-same}
 use Rattle.shows.specs.Riding.{neighbour, Riding, sendsAlong, pushes-is, pushes-over}
-use Rattle.shows.specs.Quiet.{Quiet, Covers, moved, settled-not, quiet-sends, sends-none}
-use Rattle.shows.specs.Next.{riding-merged, next-covers, Live, live-merged}
+use Rattle.shows.specs.Quiet.{Quiet, Covers, AllQuiet, moved, settled-not, quiet-sends, sends-none}
+use Rattle.shows.specs.Next.{riding-merged, next-covers}
 use Rattle.shows.specs.Read.{node-within-entry, place-node, way-is, pointer-entry, pointer-open}
 use Rattle.shows.specs.Same.{looks, arrivals-flat, seen-flat, nextAt, step-flat, bit-flat}
 use Rattle.shows.specs.Named.{named-found, named-same, listed-at, any-found, same-test}
@@ -62,6 +62,12 @@ and-none false = refl
 xor-nothing : (a : Bool) → xor (xor a false) false ≡ a
 xor-nothing true = refl
 xor-nothing false = refl
+
+-- a defect that is not sent, where none arrives
+unsent : (d c : Bool) → (d && not c) ≡ false → xor (xor (d && c) false) d ≡ false
+unsent true true e = refl
+unsent true false e = e
+unsent false c e = refl
 
 module _ (T : Table) (S : Suited T) (P : Plan) (w : Window) (st : State) (rides : Bool) (count : ℕ) (list : ℕ → ℕ) (G : Going T P w st rides count list) where
   abbrev F : Facts T w
@@ -266,9 +272,29 @@ module _ (T : Table) (S : Suited T) (P : Plan) (w : Window) (st : State) (rides 
             all = all-named;
           }
 
-  -- what was live stays so
-  pub pass-live : rides ≡ true → (listed : ℕ → Bool) → Live T w listed → Live T (merged T w) listed
-  pass-live t listed live = live-merged T S w (G .kept) (G .riding t) listed live
+  -- NO LISTED NODE WAS BUSY: then none sent and none moved, so every node is quiet after it
+  module _ (b : busyIn P st count list ≡ false) where
+    none-busy : (g : ℕ) → g < size w → stepAt T w g .busy ≡ false
+    none-busy g l = whether (stepAt T w g .busy) (λ t. absurd (undone (sym (any-at (λ i. stepAt T w i .busy) (size w) g l t) ∙ busy-list ∙ b))) (λ t. t)
+
+    none-sends : sending P st count list ≡ false
+    none-sends =
+        whether (sending P st count list)
+        (λ t.
+        let r = any-found (λ i. sender P st (list i)) count t in
+        let x = list (r .0) in
+        let floods = not (eqb (floodOf P st x .mark) (st .mark x)) in
+        absurd (undone (sym (any-at (λ i. busyAt P st (list i)) count (r .0) (r .1) (either (floods || sender P st x) _ (other floods (sender P st x) (r .2)))) ∙ b)))
+        (λ t. t)
+
+    none-moved : (g : ℕ) → g < size w → moved T w g ≡ false
+    none-moved g l =
+        let x = entry g in
+        let a : busyAt P st x ≡ false = ap (λ (s : Stepped). s .busy) (sym (next-is g l)) ∙ none-busy g l in
+        moved-is g l ∙ ap (λ (s : Bool). stirs P st s x) none-sends ∙ rw a (unsent (st .defect x) (eqb (st .pointer x) 0) (sent-is g l ∙ silent none-sends g l))
+
+    pub pass-quiet : rides ≡ true → AllQuiet T (merged T w)
+    pass-quiet t g l = next-covers T S w (G .kept) (G .riding t) (G .merging) (λ v. false) (λ v m x. absurd (undone (sym x ∙ none-moved v m))) (λ v p m x o. absurd (undone (sym x ∙ none-moved v m))) g l refl
 
   pub pass-riding : rides ≡ true → Riding T (merged T w)
   pass-riding t = riding-merged T S w (G .kept) (G .riding t)

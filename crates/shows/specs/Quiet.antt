@@ -1,5 +1,5 @@
--- NODES THAT A STEP LEAVES AS THEY ARE, and so which nodes a work list may leave out; inert ones are such where pointers ride. Assumes nothing.
-use Prim.Native.Nat.{ℕ, _+_, _≤_, _<_}
+-- NODES THAT A STEP LEAVES AS THEY ARE, and so which nodes a work list may leave out. Assumes nothing.
+use Prim.Native.Nat.{ℕ, _≤_, _<_}
 use native.Mathlib.Omega.{arith}
 use mathlib.Core.Path.{_≡_, refl, sym, _∙_, ap}
 use mathlib.Core.Bool.{Bool, true, false, _&&_, _||_, not}
@@ -11,11 +11,10 @@ use Rattle.refusal.specs.Laws.{undone}
 use Rattle.shape.specs.Choice.{whether}
 use Rattle.shape.specs.Nodes.{numberOf}
 use Rattle.steps.specs.Steps.{Table, step}
-use Rattle.steps.specs.Suited.{Suited}
 use Rattle.window.specs.Lists.{byPlace, xor}
 use Rattle.window.specs.LawsLists.{and-no}
 use Rattle.window.specs.Window.{size, at, place, detector, to}
-use Rattle.window.specs.Merging.{hot, sends, flooded, floods, scan, arrivals, syncedActive, syncedDefect, stepped, seen, stepAt}
+use Rattle.window.specs.Merging.{hot, sends, flooded, floods, syncedActive, syncedDefect, stepped, seen, stepAt}
 use Rattle.window.specs.declared.Mark.{Mark}
 use Rattle.window.specs.declared.Mark.the-variants.{Reset, Root}
 use Rattle.window.specs.declared.Node.{Node}
@@ -24,8 +23,8 @@ use Rattle.window.specs.declared.Flooded.{Flooded}
 use Rattle.window.specs.declared.Stepped.{Stepped}
 use Rattle.window.specs.declared.Window.{Window}
 use Rattle.closure.specs.Facts.{Facts}
-use Rattle.closure.specs.Scan.{ScanOutcome, passed, lowered, stopped, scanned, scan-none, arrivals-none}
-use Rattle.shows.specs.Riding.{opens, neighbour, Riding, sendsAlong, glimpse, hot-is, pushed-over, step-glimpse}
+use Rattle.closure.specs.Scan.{ScanOutcome, passed, lowered, stopped, scanned}
+use Rattle.shows.specs.Riding.{neighbour, sendsAlong, hot-is}
 
 -- nothing changed, and the node is not busy
 abbrev pub settled : Node → Stepped
@@ -33,7 +32,7 @@ settled n = record { node = n; busy = false }
 
 -- TESTS
 
-either-not : (a b : Bool) → a || b ≡ false → (a ≡ false) × (b ≡ false)
+pub either-not : (a b : Bool) → a || b ≡ false → (a ≡ false) × (b ≡ false)
 either-not false b e = (refl, e)
 either-not true b e = (e, cc)
 
@@ -43,7 +42,7 @@ xor-not false false e = refl
 xor-not true false e = e
 xor-not false true e = sym e
 
-xor-self : (a : Bool) → xor a a ≡ false
+pub xor-self : (a : Bool) → xor a a ≡ false
 xor-self true = refl
 xor-self false = refl
 
@@ -67,7 +66,7 @@ module _ (f : ℕ → Seen) (K : ℕ) where
   calm-flood own u p Reset e = absurd (undone e)
   calm-flood own u p (Root m) e = ended u p m _ (scanned f u K 0 p false m) e
 
-  unchanged : (own : ℕ) (det : Bool) (n : Node) → stepped own det n (byPlace K f) .busy ≡ false → stepped own det n (byPlace K f) .node .defect ≡ n .defect
+  pub unchanged : (own : ℕ) (det : Bool) (n : Node) → stepped own det n (byPlace K f) .busy ≡ false → stepped own det n (byPlace K f) .node .defect ≡ n .defect
       → stepped own det n (byPlace K f) ≡ settled n
   unfolding stepped
   unchanged own det n b d =
@@ -89,6 +88,10 @@ pub record Quiet (T : Table) (w : Window) (g : ℕ) : Type 0 where
 -- whatever the list does not name is quiet
 abbrev pub Covers : Table → Window → (ℕ → Bool) → Type 0
 Covers T w listed = (g : ℕ) → g < size w → listed g ≡ false → Quiet T w g
+
+-- and so is every node
+abbrev pub AllQuiet : Table → Window → Type 0
+AllQuiet T w = (g : ℕ) → g < size w → Quiet T w g
 
 -- what the code looks at: busy, or a defect that comes or goes
 abbrev pub moved : Table → Window → ℕ → Bool
@@ -121,53 +124,3 @@ sends-none n p i e =
     let c : eqb (n .pointer) 0 ≡ false = ne-eqb _ _ (λ (u : n .pointer ≡ 0). omega arith) in
     rw t (rw c at e))
     (λ t. and-no (n .defect) _ t)
-
--- AN INERT NODE
-
--- no open edge, pointer C, no defect, not active, and a number for its mark
-pub record Inert (T : Table) (w : Window) (g : ℕ) : Type 0 where
-  pub shut : (p : ℕ) → opens T w g p ≡ false
-  pub pointer : at w g .pointer ≡ 0
-  pub active : at w g .active ≡ false
-  pub defect : at w g .defect ≡ false
-  pub number : ℕ
-  pub mark : at w g .mark ≡ Root number
-
-no-hot : (b : Bool) → b && false ≡ false
-no-hot true = refl
-no-hot false = refl
-
-module _ (own : ℕ) (det : Bool) (n : Node) (m : ℕ) (ss : List Seen) (p : n .pointer ≡ 0) (a : n .active ≡ false) (d : n .defect ≡ false) (k : n .mark ≡ Root m)
-    (s : scan ss 0 (n .unrooted) (n .pointer) false m ≡ flooded (n .unrooted) (n .pointer) (Root m) false) (r : arrivals ss false ≡ false) where
-  inert-busy : stepped own det n ss .busy ≡ false
-  unfolding stepped floods syncedActive
-  inert-busy = rw (k, s, d, no-hot det, p, a)
-
-  inert-defect : stepped own det n ss .node .defect ≡ n .defect
-  unfolding stepped
-  inert-defect = rw (d, r, no-hot det)
-
-module _ (T : Table) (S : Suited T) (w : Window) (F : Facts T w) (R : Riding T w) (g : ℕ) (l : g < size w) where
-  abbrev own : ℕ
-  own = numberOf (w .shape .height) (w .shape .distance) (place w g)
-
-  abbrev K : ℕ
-  K = length (T .steps)
-
-  shut-view : (i : Inert T w g) (j : ℕ) → (glimpse T w g j .grown ≡ false) × (glimpse T w g j .pushes ≡ false)
-  shut-view i j = let x = i .shut (j + 1) in (rw x, rw x)
-
-  pub inert-quiet : Inert T w g → Quiet T w g
-  unfolding byPlace
-  inert-quiet i =
-      let ss = byPlace K (glimpse T w g) in
-      let n = at w g in
-      let s = scan-none (glimpse T w g) (n .unrooted) K 0 0 (n .pointer) false (i .number) (λ j. shut-view i j .0) in
-      let r = arrivals-none (glimpse T w g) K 0 (λ j. shut-view i j .1) in
-      record {
-        still = step-glimpse T S w F R g l
-            ∙ unchanged (glimpse T w g) K own (detector w g) n
-            (inert-busy own (detector w g) n (i .number) ss (i .pointer) (i .active) (i .defect) (i .mark) s r)
-            (inert-defect own (detector w g) n (i .number) ss (i .pointer) (i .active) (i .defect) (i .mark) s r);
-        bits = λ p e. pushed-over T S w F R g l p e (i .shut p);
-      }

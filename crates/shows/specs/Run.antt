@@ -24,15 +24,15 @@ use Rattle.flat.specs.Plan.{Plan}
 use Rattle.flat.specs.Step.{busyIn, Passed, Follows}
 use Rattle.shows.specs.Shows.{Shows}
 use Rattle.shows.specs.Riding.{Riding}
-use Rattle.shows.specs.Next.{Live}
-use Rattle.shows.specs.Pass.{Going, pass-rest, pass-on, pass-shows, pass-going, pass-live, pass-riding, pass-kept}
+use Rattle.shows.specs.Quiet.{AllQuiet}
+use Rattle.shows.specs.Pass.{Going, pass-rest, pass-on, pass-shows, pass-going, pass-riding, pass-kept, pass-quiet}
 
 -- after a round
 pub ran-round : (T : Table) (budget : ℕ) (w : Window) (defects : List ℕ) → ran T budget (rounded T w defects) ≡ stepsFrom T budget 0 (grown T (rounded T w defects))
 unfolding rounded
 ran-round T budget w defects = ran-grown T budget (rounded T w defects) refl
 
-module _ (T : Table) (P : Plan) (budget : ℕ) (whole : Ran) (rides : Bool) (listed : ℕ → Bool) (w₀ : Window) where
+module _ (T : Table) (P : Plan) (budget : ℕ) (whole : Ran) (rides : Bool) (w₀ : Window) where
   -- so many steps were made
   pub record Underway (made : ℕ) (st : State) (count : ℕ) (list : ℕ → ℕ) : Type 0 where
     pub window : Window
@@ -40,7 +40,6 @@ module _ (T : Table) (P : Plan) (budget : ℕ) (whole : Ran) (rides : Bool) (lis
     pub next : window .next ≡ w₀ .next
     pub measured : window .measured ≡ w₀ .measured
     pub going : Going T P window st rides count list
-    pub live : rides ≡ true → Live T window listed
     pub equals : stepsFrom T (budget - made) made window ≡ whole
 
   pub record Over (rest : Bool) (total : ℕ) (st : State) : Type 0 where
@@ -53,12 +52,12 @@ module _ (T : Table) (P : Plan) (budget : ℕ) (whole : Ran) (rides : Bool) (lis
     pub shows : Shows T window st
     pub still : rest ≡ true → isRest (window .stage) ≡ true
     pub riding : rides ≡ true → Riding T window
-    pub live : rides ≡ true → Live T window listed
+    pub quiet : rest ≡ true → rides ≡ true → AllQuiet T window
 
-  pub run-starts : (st : State) (count : ℕ) (list : ℕ → ℕ) → Going T P w₀ st rides count list → (rides ≡ true → Live T w₀ listed) → stepsFrom T budget 0 w₀ ≡ whole → Underway 0 st count list
-  run-starts st count list G live e =
+  pub run-starts : (st : State) (count : ℕ) (list : ℕ → ℕ) → Going T P w₀ st rides count list → stepsFrom T budget 0 w₀ ≡ whole → Underway 0 st count list
+  run-starts st count list G e =
       let z : budget - 0 ≡ budget = omega arith in
-      record { window = w₀; shape = refl; next = refl; measured = refl; going = G; live = live; equals = ap (λ (n : ℕ). stepsFrom T n 0 w₀) z ∙ e }
+      record { window = w₀; shape = refl; next = refl; measured = refl; going = G; equals = ap (λ (n : ℕ). stepsFrom T n 0 w₀) z ∙ e }
 
   -- the budget is spent
   pub run-spent : (made : ℕ) (st : State) (count : ℕ) (list : ℕ → ℕ) → Underway made st count list → budget ≤ made → Over false made st
@@ -74,7 +73,7 @@ module _ (T : Table) (P : Plan) (budget : ℕ) (whole : Ran) (rides : Bool) (lis
         shows = U .going .shows;
         still = λ e. absurd (undone (sym e));
         riding = U .going .riding;
-        live = U .live;
+        quiet = λ e. absurd (undone (sym e));
       }
 
   -- ONE PASS
@@ -103,7 +102,7 @@ module _ (T : Table) (P : Plan) (budget : ℕ) (whole : Ran) (rides : Bool) (lis
           shows = pass-shows T S P w st rides count list (U .going) st' passed;
           still = λ e. r;
           riding = pass-riding T S P w st rides count list (U .going);
-          live = λ t. pass-live T S P w st rides count list (U .going) t listed (U .live t);
+          quiet = λ e t. pass-quiet T S P w st rides count list (U .going) b t;
         }
 
     -- one was, and the next list follows, or is the same where pointers do not ride
@@ -118,6 +117,5 @@ module _ (T : Table) (P : Plan) (budget : ℕ) (whole : Ran) (rides : Bool) (lis
           measured = U .measured;
           going = pass-going T S P w st rides count list (U .going) st' passed count' list'
               (λ t. subst (λ (sh : Shape). Follows P st count list (nodes sh) count' list') (sym (U .shape)) (follows t)) same b;
-          live = λ t. pass-live T S P w st rides count list (U .going) t listed (U .live t);
           equals = sym (goes-on T made w budget l (pass-on T S P w st rides count list (U .going) b)) ∙ U .equals;
         }

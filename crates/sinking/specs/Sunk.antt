@@ -23,6 +23,7 @@ thresholdsOf h d =
 -- so that no number falls twice and none wraps
 pub record Ordered (t : Thresholds) : Type 0 where
   pub apart : t .boundary ≤ t .detectors
+  pub some : t .detectors ≤ t .end
   pub sides : t .boundary + t .sides ≤ 65535
   pub inner : t .end + t .inner ≤ 65535
 

@@ -1,4 +1,5 @@
--- WHAT THE MACHINE'S ARRAYS HOLD BEFORE THE FIRST ROUND: the fresh window, or a window that was unpacked with all its nodes live. Assumes nothing.
+-- WHAT THE MACHINE'S ARRAYS HOLD BEFORE THE FIRST ROUND: the fresh window, which is quiet, or a window that was unpacked, of which that is not
+-- known. Assumes nothing.
 use Prim.Native.Nat.{ℕ, _+_, _≤_, _<_}
 use native.Mathlib.Nat.{zero-add, mul-le-mul-right}
 use native.Mathlib.Omega.{arith}
@@ -6,6 +7,7 @@ use mathlib.Core.Path.{_≡_, refl, sym, _∙_, ap, subst}
 use mathlib.Core.Bool.{Bool, true, false}
 use mathlib.Core.List.{List}
 use lib.ListN.{length, getD, replicate, length-replicate, getD-replicate}
+use Rattle.refusal.specs.Laws.{undone}
 use Rattle.shape.specs.Sizes.{IsShape, nodesOf, sheetsOf}
 use Rattle.shape.specs.declared.Shape.{Shape}
 use Rattle.steps.specs.Steps.{Table}
@@ -18,21 +20,19 @@ use Rattle.window.specs.declared.Window.{Window}
 use Rattle.closure.specs.Closure.{Kept}
 use Rattle.flat.specs.Codes.{activeOf, defectOf, unrootedOf, pointerOf, growthOf, correctionOf}
 use Rattle.flat.specs.Entries.{plane, entry, cell, within, stateOf, Long}
-use Rattle.flat.specs.LawsEntries.{inside, within-by}
+use Rattle.flat.specs.LawsEntries.{inside}
 use Rattle.flat.specs.Plan.{planOf, Safe}
-use Rattle.flat.specs.Step.{named, liveAt}
 use Rattle.flat.specs.Stored.{stored, stored-at, length-stored}
 use Rattle.flat.specs.declared.Sizes.{Sizes}
 use Rattle.plan.specs.Filled.{Filled}
 use Rattle.plan.specs.Table.{sizesOf}
 use Rattle.round_step.specs.Falls.{NoneOutside}
 use Rattle.shows.specs.Fresh.{Blank}
-use Rattle.shows.specs.Named.{list-named}
 use Rattle.shows.specs.Tests.{riding-by}
 use Rattle.shows.specs.Written.{written-shows}
 use Rattle.unpack.specs.Rides.{ridesIn}
 use Rattle.unpack.specs.Unpacked.{Unpacked}
-use Rattle.shows.specs.Turn.{Held, live-all, fresh-held}
+use Rattle.shows.specs.Turn.{Held, fresh-held}
 use Rattle.turn.specs.Ready.{Scratch}
 
 -- as they are made
@@ -43,8 +43,8 @@ nodes-long = length-replicate {A = ℕ} 4608 0
 pub long-made : Long (replicate {A = ℕ} 4608 0) (replicate {A = ℕ} 4608 0) (replicate {A = ℕ} 27648 3)
 long-made = record { of-nodes = nodes-long; of-marks = nodes-long; of-edges = length-replicate {A = ℕ} 27648 3 }
 
-pub scratch-made : (lists : List ℕ) → length lists ≡ 13824 → Scratch lists (replicate 4608 false) (replicate {A = ℕ} 4608 0)
-scratch-made lists l = record { lists-long = l; empty = record { wide = length-replicate 4608 false; none = λ x. getD-same false 4608 x }; words-long = nodes-long }
+pub scratch-made : Scratch (replicate {A = ℕ} 13824 0) (replicate 4608 false) (replicate {A = ℕ} 4608 0)
+scratch-made = record { lists-long = length-replicate {A = ℕ} 13824 0; empty = record { wide = length-replicate 4608 false; none = λ x. getD-same false 4608 x }; words-long = nodes-long }
 
 module _ (T : Table) (h d : ℕ) (table : List ℕ) (F : Filled T h d table) where
   pub safe-made : (z : Sizes) → z ≡ sizesOf T h d → Safe z table
@@ -109,11 +109,11 @@ module _ (sh : Shape) (range : IsShape sh) (z : Sizes) (same : z ≡ sizesOf (of
         correction = λ kind x k i. ap correctionOf (no-edge (ofModel (sh .model)) h d table F kind x k (let b = inside n x i .1 in omega (arith, few-nodes)));
       }
 
-  pub fresh-starts : (list : ℕ → ℕ) → Held (ofModel (sh .model)) (planOf z table) (freshWindow (ofModel (sh .model)) sh) (stateOf (replicate {A = ℕ} 4608 0) marks (replicate {A = ℕ} 27648 3)) true 0 list
+  pub fresh-starts : Held (ofModel (sh .model)) (planOf z table) (freshWindow (ofModel (sh .model)) sh) (stateOf (replicate {A = ℕ} 4608 0) marks (replicate {A = ℕ} 27648 3)) true true
   unfolding freshWindow
-  fresh-starts list =
-      subst (λ (y : Sizes). Held (ofModel (sh .model)) (planOf y table) (freshWindow (ofModel (sh .model)) sh) (stateOf nodes marks edges) true 0 list) (sym same)
-      (fresh-held (ofModel (sh .model)) sh range (planOf (sizesOf (ofModel (sh .model)) h d) table) (F .planned) (stateOf nodes marks edges) blank list)
+  fresh-starts =
+      subst (λ (y : Sizes). Held (ofModel (sh .model)) (planOf y table) (freshWindow (ofModel (sh .model)) sh) (stateOf nodes marks edges) true true) (sym same)
+      (fresh-held (ofModel (sh .model)) sh range (planOf (sizesOf (ofModel (sh .model)) h d) table) (F .planned) (stateOf nodes marks edges) blank)
 
 -- its first round
 pub fresh-shape : (sh : Shape) → freshWindow (ofModel (sh .model)) sh .shape ≡ sh
@@ -124,43 +124,22 @@ pub fresh-next : (sh : Shape) → freshWindow (ofModel (sh .model)) sh .next ≡
 unfolding freshWindow
 fresh-next sh = refl
 
--- A WINDOW AT REST, unpacked, with all its nodes live
+-- A WINDOW AT REST, unpacked
 module _ (w : Window) (k : Kept (ofModel (w .shape .model)) w) (rest : isRest (w .stage) ≡ true) (z : Sizes) (same : z ≡ sizesOf (ofModel (w .shape .model)) (w .shape .height) (w .shape .distance)) (table : List ℕ)
     (F : Filled (ofModel (w .shape .model)) (w .shape .height) (w .shape .distance) table) (nodes marks edges : List ℕ) (U : Unpacked (ofModel (w .shape .model)) w nodes marks edges) (rides : Bool)
-    (test : rides ≡ every (z .nodes) (λ g. ridesIn z false nodes edges table (entry g)))
-    (lists : List ℕ) (made : lists ≡ stored 9216 (λ i. 512 + i) (z .nodes) (replicate {A = ℕ} 13824 0)) where
-  pub lists-long : length lists ≡ 13824
-  lists-long = ap length made ∙ length-stored 9216 (λ i. 512 + i) (z .nodes) (replicate {A = ℕ} 13824 0) ∙ length-replicate {A = ℕ} 13824 0
-
-  nodes-few : size w ≤ 3600
-  nodes-few = F .safe .nodes
-
-  nodes-are : z .nodes ≡ size w
-  nodes-are = ap (λ (y : Sizes). y .nodes) same
-
-  listed : (i : ℕ) → i < size w → liveAt lists i ≡ entry i
-  listed i l =
-      let f = nodes-few in
-      let e = nodes-are in
-      ap (λ (m : List ℕ). getD m (9216 + i) 0) made
-      ∙ stored-at 9216 (λ i. 512 + i) (z .nodes) (replicate {A = ℕ} 13824 0) 0 i (omega arith) (omega (arith, length-replicate {A = ℕ} 13824 0))
-
-  all : (g : ℕ) → g < size w → named (liveAt lists) (size w) (entry g) ≡ true
-  all g l = subst (λ (x : ℕ). named (liveAt lists) (size w) x ≡ true) (listed g l) (list-named (liveAt lists) (size w) g l)
-
-  pub resting-starts : Held (ofModel (w .shape .model)) (planOf z table) w (stateOf nodes marks edges) rides (z .nodes) (liveAt lists)
+    (test : rides ≡ every (z .nodes) (λ g. ridesIn z false nodes edges table (entry g))) where
+  pub resting-starts : Held (ofModel (w .shape .model)) (planOf z table) w (stateOf nodes marks edges) rides false
   resting-starts =
       let P = planOf (sizesOf (ofModel (w .shape .model)) (w .shape .height) (w .shape .distance)) table in
       let shows = written-shows (ofModel (w .shape .model)) w k nodes marks edges (U .written) in
       let tested : rides ≡ every (size w) (λ g. ridesIn (sizesOf (ofModel (w .shape .model)) (w .shape .height) (w .shape .distance)) false nodes edges table (entry g)) =
       test ∙ ap (λ (y : Sizes). every (y .nodes) (λ g. ridesIn y false nodes edges table (entry g))) same in
-      subst (λ (y : Sizes). Held (ofModel (w .shape .model)) (planOf y table) w (stateOf nodes marks edges) rides (y .nodes) (liveAt lists)) (sym same)
+      subst (λ (y : Sizes). Held (ofModel (w .shape .model)) (planOf y table) w (stateOf nodes marks edges) rides false) (sym same)
       (record {
         kept = k;
         rest = rest;
         planned = F .planned;
         shows = shows;
-        places = λ i l. ap (within (size w)) (listed i l) ∙ within-by (size w) (entry i) (omega arith) (omega arith);
         riding = λ t. riding-by (ofModel (w .shape .model)) (suited-model (w .shape .model)) w k P (F .planned) (stateOf nodes marks edges) shows (sym tested ∙ t);
-        live = λ t. live-all (ofModel (w .shape .model)) w (size w) (liveAt lists) all;
+        all-quiet = λ t u. absurd (undone (sym u));
       })

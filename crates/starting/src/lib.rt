@@ -1,12 +1,7 @@
-// The machine's arrays before the first round: a fresh window's marks; of a window that is handed over, all nodes listed as live.
-use flat::LISTS;
-use flat::LIVE;
-use flat::MARGIN;
+// The machine's arrays before the first round: a fresh window's marks.
 use flat::PLANE;
-use flat::Sizes;
 use flat::TABLE;
 ghost use mathlib.Core.Path.{_≡_};
-ghost use Prim.Native.Nat.{_+_, _≤_};
 ghost use lib.ListN.{getD};
 ghost use Rattle.flat.specs.Stored.{stored};
 
@@ -17,19 +12,6 @@ pub fn own_marks(marks: &mut [u16; PLANE], table: &[u16; TABLE])
     let mut i: usize = 0;
     while i < PLANE {
         marks[i] = table[i];
-        i += 1;
-    }
-}
-
-// All nodes are listed as live.
-pub fn all_live(z: Sizes, lists: &mut [u16; LISTS])
-    requires { ⌜ z .nodes ≤ 3600 ⌝ }
-    ensures { λ _. ⌜ now (lists .exit) ≡ stored 9216 (λ i. 512 + i) (z .nodes) (now (lists .entry)) ⌝ }
-{
-    let n = z.nodes;
-    let mut i: usize = 0;
-    while i < n {
-        lists[LIVE + i] = (MARGIN + i) as u16;
         i += 1;
     }
 }

@@ -6,15 +6,13 @@ use flat::Sizes;
 use flat::TABLE;
 use shape::Shape;
 ghost use mathlib.Core.Path.{_≡_};
-ghost use mathlib.Core.Bool.{true, false};
-ghost use Prim.Native.Nat.{_+_, _-_, _%_, _≤_};
-ghost use lib.Dec.{eqb};
+ghost use mathlib.Core.Bool.{true};
+ghost use Prim.Native.Nat.{ℕ, _+_, _*_, _%_, _≤_, _<_};
 ghost use lib.ListN.{length, getD};
 ghost use Rattle.shape.specs.Sizes.{inRange, detectorsOf};
-ghost use Rattle.flat.specs.Codes.{nodeCode};
 ghost use Rattle.flat.specs.Entries.{plane};
 ghost use Rattle.flat.specs.Stored.{stored};
-ghost use Rattle.top_sheet.specs.Received.{Received};
+ghost use Rattle.top_sheet.specs.Received.{Received, placeOf, putOne, putFrom};
 
 pub fn clear_nodes(at: usize, n: usize, nodes: &mut [u8; PLANE])
     requires { ⌜ at + n ≤ 4608 ⌝ }
@@ -70,44 +68,70 @@ pub fn lay_edges(at: usize, n: usize, from: usize, edges: &mut [u8; PLANES], tab
     }
 }
 
-// A fresh detector.
-fn fresh(byte: u8) -> u8
-    ensures { λ r. ⌜ r ≡ nodeCode false (eqb byte 1) false 0 ⌝ }
+// No byte of a block is set: few are in most rounds.
+const BLOCK: usize = 16;
+
+fn none_set(from: usize, bytes: &[u8]) -> bool
+    requires { ⌜ from + 16 ≤ length (now bytes) ⌝ }
+    ensures { λ r. ⌜ (r ≡ true → (i : ℕ) → i < 16 → getD (now (bytes .entry)) (from + i) 0 ≡ 0) ⌝ }
 {
-    if byte == 1 {
-        return 2;
+    let mut seen: u8 = 0;
+    let mut i: usize = 0;
+    while i < BLOCK {
+        seen = seen | bytes[from + i];
+        i += 1;
     }
-    0
+    seen == 0
 }
 
-// One row of detectors.
-fn receive_row(at: usize, from: usize, n: usize, bytes: &[u8], nodes: &mut [u8; PLANE])
-    requires { ⌜ (at + n ≤ 4608) × (from + n ≤ length (now bytes)) ⌝ }
-    ensures { λ _. ⌜ now (nodes .exit) ≡ stored at (λ i. nodeCode false (eqb (getD (now (bytes .entry)) (from + i) 0) 1) false 0) n (now (nodes .entry)) ⌝ }
+// A detector's defect, by its byte.
+fn put(j: usize, d: usize, byte: u8, nodes: &mut [u8; PLANE])
+    requires { ⌜ (2 ≤ d) × (d ≤ 15) × (placeOf d j < 4608) ⌝ }
+    ensures { λ _. ⌜ now (nodes .exit) ≡ putOne d j byte (now (nodes .entry)) ⌝ }
+{
+    if byte != 1 {
+        return;
+    }
+    let x = MARGIN + 1 + (j / (d - 1) * (d + 1) + j % (d - 1));
+    nodes[x] = 2;
+}
+
+fn put_part(from: usize, n: usize, d: usize, bytes: &[u8], nodes: &mut [u8; PLANE])
+    requires { ⌜ (2 ≤ d) × (d ≤ 15) × (from + n ≤ length (now bytes)) ⌝ }
+    requires { ⌜ ((j : ℕ) → j < length (now bytes) → placeOf d j < 4608) ⌝ }
+    ensures { λ _. ⌜ now (nodes .exit) ≡ putFrom d (now (bytes .entry)) from n (now (nodes .entry)) ⌝ }
 {
     let mut i: usize = 0;
     while i < n {
-        nodes[at + i] = fresh(bytes[from + i]);
+        put(from + i, d, bytes[from + i], nodes);
         i += 1;
     }
 }
 
-// The top sheet's detectors, row by row; its boundary nodes stay.
+fn put_block(from: usize, d: usize, bytes: &[u8], nodes: &mut [u8; PLANE])
+    requires { ⌜ (2 ≤ d) × (d ≤ 15) × (from + 16 ≤ length (now bytes)) ⌝ }
+    requires { ⌜ ((j : ℕ) → j < length (now bytes) → placeOf d j < 4608) ⌝ }
+    ensures { λ _. ⌜ now (nodes .exit) ≡ putFrom d (now (bytes .entry)) from 16 (now (nodes .entry)) ⌝ }
+{
+    if none_set(from, bytes) {
+        return;
+    }
+    put_part(from, BLOCK, d, bytes, nodes);
+}
+
+// The defects of a top sheet that is cleared; its boundary nodes stay.
 pub fn receive(shape: Shape, bytes: &[u8], nodes: &mut [u8; PLANE])
     requires { ⌜ inRange (shape .height) (shape .distance) ≡ true ⌝ }
     requires { ⌜ length (now bytes) ≡ detectorsOf (shape .height) (shape .distance) ⌝ }
     requires { ⌜ length (now nodes) ≡ plane ⌝ }
+    requires { ⌜ ((x : ℕ) → x < shape .height * (shape .distance + 1) → getD (now nodes) (512 + x) 0 ≡ 0) ⌝ }
     ensures { λ _. ⌜ Received (shape .height) (shape .distance) (now (bytes .entry)) (now (nodes .entry)) (now (nodes .exit)) ⌝ }
 {
-    let h = shape.height as usize;
     let d = shape.distance as usize;
-    let mut at = MARGIN + 1;
-    let mut from: usize = 0;
-    let mut r: usize = 0;
-    while r < h {
-        receive_row(at, from, d - 1, bytes, nodes);
-        at += d + 1;
-        from += d - 1;
-        r += 1;
+    let mut j: usize = 0;
+    while j + BLOCK <= bytes.len() {
+        put_block(j, d, bytes, nodes);
+        j += BLOCK;
     }
+    put_part(j, bytes.len() - j, d, bytes, nodes);
 }

@@ -4,6 +4,7 @@ use flat::PLANE;
 use flat::PLANES;
 use flat::Sizes;
 use flat::TABLE;
+use run_steps::Reached;
 use shape::Shape;
 ghost use mathlib.Core.Path.{_≡_};
 ghost use Prim.Native.Nat.{_<_};
@@ -12,29 +13,21 @@ ghost use Rattle.shape.specs.Sizes.{detectorsOf};
 ghost use Rattle.window.specs.Window.{maxNext};
 ghost use Rattle.flat.specs.Entries.{stateOf};
 ghost use Rattle.flat.specs.Plan.{planOf};
-ghost use Rattle.flat.specs.Step.{liveAt};
 ghost use Rattle.turn.specs.Ready.{Ready};
 ghost use Rattle.turn.specs.Turned.{TurnLeaves};
 
 // Merging steps a round.
 pub const BUDGET: u32 = 65536;
 
-// What the arrays hold of a window besides its nodes and edges: its next round, whether its pointers ride on open edges, and how many nodes are
-// live.
+// What the arrays hold of a window besides its nodes and edges: its next round, whether its pointers ride on open edges, and whether it was run to
+// rest, so that a merging step would change no node.
 pub struct Held {
     pub next: u32,
     pub rides: bool,
-    pub live: usize,
+    pub quiet: bool,
 }
 
-// Whether the window came to rest, the steps made, and how many nodes are live.
-pub struct TurnGiven {
-    pub rest: bool,
-    pub count: u32,
-    pub live: usize,
-}
-
-// Receives a round and runs the window.
+// Receives a round and runs the window. Where all was quiet and pointers ride, the first step goes over what the round and the growth changed.
 pub fn turn(
     shape: Shape,
     z: Sizes,
@@ -50,10 +43,10 @@ pub fn turn(
     lists: &mut [u16; LISTS],
     queued: &mut [bool; PLANE],
     words: &mut [u32; PLANE],
-) -> TurnGiven
-    requires { ⌜ Ready shape z (held .next) (held .rides) (held .live) (now «old_nodes») (now «old_marks») (now «old_edges») (now nodes) (now marks) (now edges) (now table) (now lists) (now queued) (now words) ⌝ }
+) -> Reached
+    requires { ⌜ Ready shape z (held .next) (held .rides) (held .quiet) (now «old_nodes») (now «old_marks») (now «old_edges») (now nodes) (now marks) (now edges) (now table) (now lists) (now queued) (now words) ⌝ }
     requires { ⌜ (held .next < maxNext) × (length (now bytes) ≡ detectorsOf (shape .height) (shape .distance)) ⌝ }
-    ensures { λ r. ⌜ TurnLeaves (planOf z (now (table .entry))) shape (held .next) (now (bytes .entry)) (stateOf (now («old_nodes» .entry)) (now («old_marks» .entry)) (now («old_edges» .entry))) (held .rides) (held .live) (liveAt (now (lists .entry))) (r .rest) (r .count) (r .live) (now (nodes .exit)) (now (marks .exit)) (now (edges .exit)) (now (lists .exit)) (now (queued .exit)) (now (words .exit)) ⌝ }
+    ensures { λ r. ⌜ TurnLeaves (planOf z (now (table .entry))) shape (held .next) (now (bytes .entry)) (stateOf (now («old_nodes» .entry)) (now («old_marks» .entry)) (now («old_edges» .entry))) (held .rides) (held .quiet) (r .rest) (r .count) (now (nodes .exit)) (now (marks .exit)) (now (edges .exit)) (now (lists .exit)) (now (queued .exit)) (now (words .exit)) ⌝ }
 {
     let second = round_step::second(shape, held.next);
     round_step::fall(
@@ -69,9 +62,19 @@ pub fn turn(
         edges,
         table,
     );
-    grow_step::grow(z, nodes, marks, edges, table);
-    let listed = work_list::work_list(z, held.rides, held.live, nodes, edges, table, lists, queued);
-    let run = run_steps::run(
+    let opened = grow_step::grow(z, nodes, marks, edges, table, lists, queued);
+    let listed = work_list::work_list(
+        z,
+        held.rides & held.quiet,
+        opened,
+        nodes,
+        marks,
+        edges,
+        table,
+        lists,
+        queued,
+    );
+    run_steps::run(
         z,
         held.rides,
         BUDGET,
@@ -83,10 +86,5 @@ pub fn turn(
         lists,
         queued,
         words,
-    );
-    TurnGiven {
-        rest: run.rest,
-        count: run.count,
-        live: listed,
-    }
+    )
 }

@@ -6,58 +6,37 @@ use flat::Sizes;
 use flat::TABLE;
 ghost use mathlib.Core.Path.{_≡_};
 ghost use mathlib.Core.Bool.{true};
-ghost use Prim.Native.Nat.{ℕ, _≤_};
-ghost use lib.ListN.{length, getD};
+ghost use Prim.Native.Nat.{ℕ};
+ghost use lib.ListN.{getD};
 ghost use Rattle.flat.specs.Codes.{growthOf};
 ghost use Rattle.flat.specs.Entries.{within};
 ghost use Rattle.flat.specs.Plan.{planOf, Safe};
-ghost use Rattle.flat.specs.Step.{Places, liveAt};
-ghost use Rattle.queue.specs.Queue.{Empty, Inside};
-ghost use Rattle.work_list.specs.Work.{Work, Worked};
+ghost use Rattle.flat.specs.Step.{listAt, Places};
+ghost use Rattle.queue.specs.Queue.{Queue, Inside};
+ghost use Rattle.work_list.specs.Work.{Worked};
 
-// From the live nodes, so many, where pointers ride on open edges; else all nodes. The list of live nodes stays.
-fn first_list(
-    z: Sizes,
-    rides: bool,
-    live: usize,
-    nodes: &[u8; PLANE],
-    edges: &[u8; PLANES],
-    table: &[u16; TABLE],
-    lists: &mut [u16; LISTS],
-    queued: &mut [bool; PLANE],
-) -> usize
-    requires { ⌜ Safe z (now table) ⌝ }
-    requires { ⌜ (live ≤ 4608) × (length (now lists) ≡ 13824) × Empty (now queued) ⌝ }
-    requires { ⌜ Places (z .nodes) live (liveAt (now lists)) ⌝ }
-    requires { ⌜ ((x : ℕ) → within (z .nodes) x ≡ true → Inside (planOf z (now table)) (λ e. growthOf (getD (now edges) e 0)) x (z .dirs) (z .nodes)) ⌝ }
-    ensures { λ r. ⌜ Work (planOf z (now (table .entry))) (z .nodes) (z .sheet) rides live (now (nodes .entry)) (now (edges .entry)) (now (lists .entry)) r (now (lists .exit)) (now (queued .exit)) ⌝ }
-{
-    if !rides {
-        return live::all_nodes(z, lists, queued);
-    }
-    let sunk = live::sink_live(z, live, lists, queued);
-    let opened = live::push_grown(z, sunk, nodes, edges, table, lists, queued);
-    live::push_defects(z, opened, nodes, lists, queued)
-}
-
-// The same, and the list is the list of live nodes from then on.
+// The ends of edges that opened, so many, are listed. Where only changes count, the nodes that were cut are added, with what lies over their open
+// edges, and the new defects; else all nodes.
 pub fn work_list(
     z: Sizes,
-    rides: bool,
-    live: usize,
+    changes: bool,
+    opened: usize,
     nodes: &[u8; PLANE],
+    marks: &[u16; PLANE],
     edges: &[u8; PLANES],
     table: &[u16; TABLE],
     lists: &mut [u16; LISTS],
     queued: &mut [bool; PLANE],
 ) -> usize
     requires { ⌜ Safe z (now table) ⌝ }
-    requires { ⌜ (live ≤ 4608) × (length (now lists) ≡ 13824) × Empty (now queued) ⌝ }
-    requires { ⌜ Places (z .nodes) live (liveAt (now lists)) ⌝ }
+    requires { ⌜ Queue 0 opened (now lists) (now queued) ⌝ }
+    requires { ⌜ Places (z .nodes) opened (listAt (now lists) 0) ⌝ }
     requires { ⌜ ((x : ℕ) → within (z .nodes) x ≡ true → Inside (planOf z (now table)) (λ e. growthOf (getD (now edges) e 0)) x (z .dirs) (z .nodes)) ⌝ }
-    ensures { λ r. ⌜ Worked (planOf z (now (table .entry))) (z .nodes) (z .sheet) rides live (now (nodes .entry)) (now (edges .entry)) (now (lists .entry)) r (now (lists .exit)) (now (queued .exit)) ⌝ }
+    ensures { λ r. ⌜ Worked (planOf z (now (table .entry))) (z .nodes) (z .sheet) changes opened (now (nodes .entry)) (now (marks .entry)) (now (edges .entry)) (now (lists .entry)) r (now (lists .exit)) (now (queued .exit)) ⌝ }
 {
-    let count = first_list(z, rides, live, nodes, edges, table, lists, queued);
-    live::keep_live(count, lists);
-    count
+    if !changes {
+        return enlist::all_nodes(z, opened, lists, queued);
+    }
+    let cut = enlist::push_cut(z, opened, marks, edges, table, lists, queued);
+    enlist::push_defects(z, cut, nodes, lists, queued)
 }

@@ -1,129 +1,114 @@
-use mathlib.Core.Path.{_≡_}
-use Prim.Native.Nat.{_≤_, _-_, _+_}
+-- `growing::cut` meets its contract. Assumes nothing.
+use Prim.Native.Nat.{ℕ, _≤_, _<_, _-_, _+_}
 use native.Mathlib.Omega.{arith}
 use borrow.Author.Needs.{needs}
+use mathlib.Core.Path.{_≡_, sym, _∙_}
+use mathlib.Core.Bool.{Bool, false}
+use borrow.Author.Tests.{not-true}
+use lib.Dec.{eqb, leb}
 use lib.ListN.{getD}
-use lib.Dec.{eqb}
 use Rattle.flat.specs.Stored.{stored, stored-none, stored-done}
 use Rattle.growing.specs.Grown.{cutNode, cutMark}
-use Rattle.growing.specs.LawsGrown.{cut-node-next, cut-mark-next}
+use Rattle.growing.specs.LawsListed.{any-each}
+use Rattle.growing.specs.LawsCut.{strips-node, strips-mark, centred-node, centred-mark}
 use Rattle.growing.proofs.cut.Statement.{statement}
 use Rattle.growing.proofs.cut.Tie as tie
+use Rattle.growing.proofs.cut.Reads as reads
+use Rattle.growing.proofs.cut.Lts as lts
+use Rattle.growing.proofs.is_centred.Reads as is-centred-reads
+use Rattle.growing.proofs.cut_strip.Reads as cut-strip-reads
+use Rattle.growing.proofs.part_of.Reads as part-of-reads
 
-abbrev Inv-loop : tie.InvT-loop
-Inv-loop nodes₀ marks₀ table sheet bottom i₀ nodes marks i = (i ≤ sheet) × (nodes ≡ stored bottom (λ j. cutNode (λ p. eqb (getD table (128 + p) 0) 1) (getD nodes₀ (bottom + j) 0)) i nodes₀) × (marks ≡ stored bottom (λ j. cutMark (λ p. eqb (getD table (128 + p) 0) 1) (getD nodes₀ (bottom + j) 0) (getD marks₀ (bottom + j) 0)) i marks₀)
+abbrev Inv-strips : tie.InvT-strips
+Inv-strips nodes₀ marks₀ table sheet bottom i₀ nodes marks i =
+    (i ≤ sheet)
+    × (nodes ≡ stored bottom (λ j. cutNode (λ p. eqb (getD table (128 + p) 0) 1) (getD nodes₀ (bottom + j) 0)) i nodes₀)
+    × (marks ≡ stored bottom (λ j. cutMark (λ p. eqb (getD table (128 + p) 0) 1) (getD nodes₀ (bottom + j) 0) (getD marks₀ (bottom + j) 0)) i marks₀)
 
-abbrev μ-loop : tie.MeasureT-loop
-μ-loop nodes₀ marks₀ table sheet bottom i₀ nodes marks i = sheet - i
+abbrev μ-strips : tie.MeasureT-strips
+μ-strips nodes₀ marks₀ table sheet bottom i₀ nodes marks i = sheet - i
 
-add-bottom : tie.Need-add-bottom Inv-loop μ-loop
+add-bottom : tie.Need-add-bottom Inv-strips μ-strips
 add-bottom c = search needs
 
-sub-bottom : tie.Need-sub-bottom Inv-loop μ-loop
+sub-bottom : tie.Need-sub-bottom Inv-strips μ-strips
 sub-bottom c = search needs
 
-loop-holds : tie.Need-loop-holds Inv-loop μ-loop
-loop-holds c = (omega arith, stored-none _ _ _, stored-none _ _ _)
+strips-holds : tie.Need-strips-holds Inv-strips μ-strips
+strips-holds c = (omega arith, stored-none _ _ _, stored-none _ _ _)
 
-add-told : tie.Need-add-told Inv-loop μ-loop
-add-told c = search needs
+add-at : tie.Need-add-at Inv-strips μ-strips
+add-at c = search needs
 
-element-copy-out-told : tie.Need-element-copy-out-told Inv-loop μ-loop
-element-copy-out-told c = search needs
+sub-part-of : tie.Need-sub-part-of Inv-strips μ-strips
+sub-part-of c = search needs
 
-told-requires : tie.Need-told-requires Inv-loop μ-loop
-told-requires c κs = search needs
+part-of-requires : tie.Need-part-of-requires Inv-strips μ-strips
+part-of-requires c κs = search needs
 
-mul-falls : tie.Need-mul-falls Inv-loop μ-loop
-mul-falls c = search needs
-
-element-copy-out-falls : tie.Need-element-copy-out-falls Inv-loop μ-loop
-element-copy-out-falls c = search needs
-
-add-cut-node : tie.Need-add-cut-node Inv-loop μ-loop
-add-cut-node c = search needs
-
-element-copy-out-cut-node : tie.Need-element-copy-out-cut-node Inv-loop μ-loop
-element-copy-out-cut-node c = search needs
-
-cut-node-requires : tie.Need-cut-node-requires Inv-loop μ-loop
-cut-node-requires c κs = search needs
-
-add-nodes : tie.Need-add-nodes Inv-loop μ-loop
-add-nodes c = search needs
-
-element-write-nodes : tie.Need-element-write-nodes Inv-loop μ-loop
-element-write-nodes c = search needs
-
-add-cut-mark : tie.Need-add-cut-mark Inv-loop μ-loop
-add-cut-mark c = search needs
-
-mul-cut-mark : tie.Need-mul-cut-mark Inv-loop μ-loop
-mul-cut-mark c = search needs
-
-element-copy-out-cut-mark : tie.Need-element-copy-out-cut-mark Inv-loop μ-loop
-element-copy-out-cut-mark c = search needs
-
-cut-mark-requires : tie.Need-cut-mark-requires Inv-loop μ-loop
-cut-mark-requires c κs = search needs
-
-add-marks : tie.Need-add-marks Inv-loop μ-loop
-add-marks c = search needs
-
-mul-marks : tie.Need-mul-marks Inv-loop μ-loop
-mul-marks c = search needs
-
-element-write-marks : tie.Need-element-write-marks Inv-loop μ-loop
-element-write-marks c = search needs
-
-add-i : tie.Need-add-i Inv-loop μ-loop
+add-i : tie.Need-add-i Inv-strips μ-strips
 add-i c = search needs
 
-loop-less : tie.Need-loop-less Inv-loop μ-loop
-loop-less c = search needs
+is-centred-requires : tie.Need-is-centred-requires Inv-strips μ-strips
+is-centred-requires c κs = search needs
 
-loop-again : tie.Need-loop-again Inv-loop μ-loop
-loop-again c =
-    let s = c .before .before .before .before .before .before .before .before .before .before .args in
-    let l = c .before .before .before .before .before .before .before .before .loop in
-    let t = c .before .before .before .before .before .told in
-    let b = 512 + s .z .nodes - s .z .sheet in
-    let told = t .ensures .0 in (
+strips-less : tie.Need-strips-less Inv-strips μ-strips
+strips-less c = search needs
+
+strips-again : tie.Need-strips-again Inv-strips μ-strips
+strips-again c =
+    let s = c .before .before .before .before .before .before .before in
+    let l = c .before .before .before .before .before .strips in
+    let b = 512 + s .args .z .nodes - s .args .z .sheet in
+    let m = c .before .before .before .part-of .result in
+    let pm = c .before .before .before .part-of .ensures in
+    let f : ℕ → Bool = λ p. eqb (getD (s .args .table .now) (128 + p) 0) 1 in
+    let none = not-true _ (sym (c .before .is-centred .ensures) ∙ c .if1 .taken) in
+    let rest : (j : ℕ) → j < m → leb 8 (getD (l .nodes) (b + l .i + j) 0) ≡ false = λ j h. any-each (λ j. leb 8 (getD (l .nodes) (b + l .i + j) 0)) 16 j none (omega arith) in (
       omega arith,
-      cut-node-next (s .table .now) (s .nodes .now) (s .marks .now) b (l .i) (t .result) (l .nodes) (l .inv .1) told (c .before .before .cut-node .result) (c .before .before .cut-node .ensures),
-      cut-mark-next (s .table .now) (s .nodes .now) (s .marks .now) b (l .i) (t .result) (l .nodes) (l .inv .1) told (l .marks) (c .cut-mark .result) (l .inv .2) (c .cut-mark .ensures),
+      strips-node f (s .args .nodes .now) (s .args .marks .now) b (l .i) m (l .nodes) (l .marks) (l .nodes) (l .marks) (l .inv .1) (centred-node f (s .pre .1) (b + l .i) m (l .nodes) (l .marks) rest),
+      strips-mark f (s .args .nodes .now) (s .args .marks .now) b (l .i) m (l .nodes) (l .marks) (l .nodes) (l .marks) (l .inv .1) (l .inv .2) (centred-mark f (s .pre .1) (b + l .i) m (l .nodes) (l .marks) rest),
     )
 
-returns : tie.Need-returns Inv-loop μ-loop
-returns c = let l = c .before .loop in (stored-done _ _ _ _ _ _ (l .inv .1) (l .inv .0) (c .loop-test .left), stored-done _ _ _ _ _ _ (l .inv .2) (l .inv .0) (c .loop-test .left))
+cut-strip-requires : tie.Need-cut-strip-requires Inv-strips μ-strips
+cut-strip-requires c κs = search needs
+
+strips-less-2 : tie.Need-strips-less-2 Inv-strips μ-strips
+strips-less-2 c = search needs
+
+strips-again-2 : tie.Need-strips-again-2 Inv-strips μ-strips
+strips-again-2 c =
+    let s = c .before .before .before .before .before .before .before .before .before .before in
+    let l = c .before .before .before .before .before .before .before .before .strips in
+    let b = 512 + s .args .z .nodes - s .args .z .sheet in
+    let m = c .before .before .before .before .before .before .part-of .result in
+    let pm = c .before .before .before .before .before .before .part-of .ensures in
+    let f : ℕ → Bool = λ p. eqb (getD (s .args .table .now) (128 + p) 0) 1 in (
+      omega arith,
+      strips-node f (s .args .nodes .now) (s .args .marks .now) b (l .i) m (l .nodes) (l .marks) _ (l .marks) (l .inv .1) (c .cut-strip .ensures .0),
+      strips-mark f (s .args .nodes .now) (s .args .marks .now) b (l .i) m (l .nodes) (l .marks) (l .nodes) _ (l .inv .1) (l .inv .2) (c .cut-strip .ensures .1),
+    )
+
+returns : tie.Need-returns Inv-strips μ-strips
+returns c = let l = c .before .strips in (stored-done _ _ _ _ _ _ (l .inv .1) (l .inv .0) (c .strips-test .left), stored-done _ _ _ _ _ _ (l .inv .2) (l .inv .0) (c .strips-test .left))
 
 pub cut-spec : {M : Type 1} → statement M
 cut-spec =
     tie.close
     (tie.spec
-    Inv-loop
-    μ-loop
+    Inv-strips
+    μ-strips
     add-bottom
     sub-bottom
-    loop-holds
-    add-told
-    element-copy-out-told
-    told-requires
-    mul-falls
-    element-copy-out-falls
-    add-cut-node
-    element-copy-out-cut-node
-    cut-node-requires
-    add-nodes
-    element-write-nodes
-    add-cut-mark
-    mul-cut-mark
-    element-copy-out-cut-mark
-    cut-mark-requires
-    add-marks
-    mul-marks
-    element-write-marks
+    strips-holds
+    add-at
+    sub-part-of
+    part-of-requires
     add-i
-    loop-less
-    loop-again
+    is-centred-requires
+    strips-less
+    strips-again
+    cut-strip-requires
+    strips-less-2
+    strips-again-2
     returns)

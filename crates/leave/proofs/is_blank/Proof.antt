@@ -1,58 +1,22 @@
--- `leave::is_blank` meets its contract: it is found among the entries passed. Assumes nothing.
-use mathlib.Core.Path.{_≡_, sym, ap}
-use Prim.Native.Nat.{_≤_, _-_, _+_}
-use native.Mathlib.Omega.{arith}
-use borrow.Author.Needs.{needs}
-use lib.ListN.{getD}
-use Rattle.flat.specs.Codes.{correctionOf}
-use Rattle.window.specs.Lists.{any}
-use Rattle.window.specs.LawsLists.{any-none, any-next}
-use Rattle.leave.specs.LawsLeaving.{any-done}
+-- `leave::is_blank` meets its contract: the stretch tells, or each entry. Assumes nothing.
+use mathlib.Core.Path.{sym, ap}
 use mathlib.Core.Bool.{not}
+use Prim.Native.Nat.{_-_}
+use borrow.Author.Needs.{needs}
 use Rattle.leave.proofs.is_blank.Statement.{statement}
 use Rattle.leave.proofs.is_blank.Tie as tie
 
-abbrev Inv-loop : tie.InvT-loop
-Inv-loop at n edges found₀ i₀ found i = (i ≤ n) × (found ≡ any i (λ j. correctionOf (getD edges (at + j) 0)))
+blank-on-requires : tie.Need-blank-on-requires
+blank-on-requires c κs = search needs
 
-abbrev μ-loop : tie.MeasureT-loop
-μ-loop at n edges found₀ i₀ found i = n - i
+returns : tie.Need-returns
+returns c = sym (ap not (c .before .blank-on .ensures (c .if1 .taken)))
 
-loop-holds : tie.Need-loop-holds Inv-loop μ-loop
-loop-holds c = (omega arith, sym (any-none _))
+any-corrected-requires : tie.Need-any-corrected-requires
+any-corrected-requires c κs = search needs
 
-add-corrected : tie.Need-add-corrected Inv-loop μ-loop
-add-corrected c = omega arith
-
-element-copy-out-corrected : tie.Need-element-copy-out-corrected Inv-loop μ-loop
-element-copy-out-corrected c = omega arith
-
-corrected-requires : tie.Need-corrected-requires Inv-loop μ-loop
-corrected-requires c κs = search needs
-
-add-i : tie.Need-add-i Inv-loop μ-loop
-add-i c = omega arith
-
-loop-less : tie.Need-loop-less Inv-loop μ-loop
-loop-less c = omega arith
-
-loop-again : tie.Need-loop-again Inv-loop μ-loop
-loop-again c = let l = c .before .before .before .loop in (omega arith, any-next _ (l .i) (l .found) (c .corrected .result) (l .inv .1) (c .corrected .ensures))
-
-returns : tie.Need-returns Inv-loop μ-loop
-returns c = let l = c .before .loop in ap not (any-done _ _ _ _ (l .inv .1) (l .inv .0) (c .loop-test .left))
+returns-2 : tie.Need-returns-2
+returns-2 c = ap not (c .any-corrected .ensures)
 
 pub is-blank-spec : {M : Type 1} → statement M
-is-blank-spec =
-    tie.close
-    (tie.spec
-    Inv-loop
-    μ-loop
-    loop-holds
-    add-corrected
-    element-copy-out-corrected
-    corrected-requires
-    add-i
-    loop-less
-    loop-again
-    returns)
+is-blank-spec = tie.close (tie.spec blank-on-requires returns any-corrected-requires returns-2)

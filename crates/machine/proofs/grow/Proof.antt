@@ -6,7 +6,7 @@ use lib.ListN.{length-map}
 use Rattle.shape.specs.Sizes.{inRange}
 use Rattle.steps.specs.Models.{ofModel}
 use Rattle.closure.specs.Closure.{Kept}
-use Rattle.machine.proofs.Packed.{formed-ranged, kept-by, unpacked-long, safe, grown-packed}
+use Rattle.machine.proofs.Packed.{formed-ranged, kept-by, unpacked-long, safe, none-queued, standing, grown-packed}
 use Rattle.machine.proofs.grow.Statement.{statement}
 use Rattle.machine.proofs.grow.Tie as tie
 
@@ -29,9 +29,12 @@ unpack-requires c κs = (c .before .before .before .before .before .before .befo
 
 grow-requires : tie.Need-grow-requires
 grow-requires c κs =
-    let f = c .before .before .before .before .before .before .before .before .before in
-    let w = f .before .before .before .before .before .args .w in
-    (safe w (f .before .before .sizes .result) (f .before .before .sizes .ensures) _ (f .fill .ensures), unpacked-long w _ _ _ (c .before .before .before .before .unpack .ensures))
+    let u = c .before .before .before .before .before .before in
+    let f = u .before .before .before .before .before in
+    let z = f .before .before .sizes in
+    let s = f .before .before .before .before .before in
+    let w = s .args .w in
+    (safe w (z .result) (z .ensures) _ (f .fill .ensures), (unpacked-long w _ _ _ (u .unpack .ensures), ((refl, none-queued 4608 refl), standing w (z .result) (z .ensures) _ (f .fill .ensures) (kept s) _ _ _ (u .unpack .ensures))))
 
 pack-requires : tie.Need-pack-requires
 pack-requires c κs = search needs
@@ -39,11 +42,11 @@ pack-requires c κs = search needs
 returns : tie.Need-returns
 returns c =
     let g = c .before .before .before .before in
-    let u = g .before .before .before .before .before in
+    let u = g .before .before .before .before .before .before .before in
     let f = u .before .before .before .before .before in
     let z = f .before .before .sizes in
     let s = f .before .before .before .before .before in
-    c .pack .ensures ∙ grown-packed (s .args .w) (z .result) (z .ensures) _ (f .fill .ensures) (kept s) _ _ _ (u .unpack .ensures) _ (g .grow .ensures .1)
+    c .pack .ensures ∙ grown-packed (s .args .w) (z .result) (z .ensures) _ (f .fill .ensures) (kept s) _ _ _ (u .unpack .ensures) _ (g .grow .ensures .1 .0)
 
 pub grow-spec : {M : Type 1} → statement M
 grow-spec =

@@ -16,7 +16,6 @@ use Rattle.window.specs.LawsLists.{Fills, part-fits, part-back, part-long}
 use Rattle.list.specs.Sheet.{readInto}
 use Rattle.record.specs.Calls.{roundAnswer}
 use Rattle.flat.specs.Plan.{planOf}
-use Rattle.flat.specs.Step.{liveAt}
 use Rattle.next_round.specs.Next.{nextRound}
 use Rattle.next_round.specs.Laws.{ReadRound, next-found}
 use Rattle.one_record.proofs.Kept.{take-zeros, read-answer, read-done, on-end, on-refused, on-read}
@@ -103,7 +102,7 @@ returns c =
     let a = s .args in
     let p = s .pre in
     let t = c .before .before .before in
-    on-end (planOf (a .z) (a .table .now)) (a .shape) (a .held .next) (a .old-nodes .now) (a .old-marks .now) (a .old-edges .now) (a .held .rides) (a .held .live) (liveAt (a .lists .now)) (a .src .now) (stream (c .before .before .before .before .before .before .before)) (a .at) (a .out .now) (a .to) (a .nodes .now) (a .marks .now) (a .edges .now) (p .free) (p .few) (a .lists .now) (a .queued .now) (a .words .now) (p .scratch) (read-answer (nextRound (a .src .now) (detectorsOf (a .shape .height) (a .shape .distance)) (a .held .next) (a .at) (length (a .out .now)) (a .to)) (t .next-round .result) _ (told t) ∙ ap roundAnswer (c .enum-told .given .1))
+    on-end (planOf (a .z) (a .table .now)) (a .shape) (a .held .next) (a .old-nodes .now) (a .old-marks .now) (a .old-edges .now) (a .held .rides) (a .held .quiet) (a .src .now) (stream (c .before .before .before .before .before .before .before)) (a .at) (a .out .now) (a .to) (a .nodes .now) (a .marks .now) (a .edges .now) (p .free) (a .lists .now) (a .queued .now) (a .words .now) (p .scratch) (read-answer (nextRound (a .src .now) (detectorsOf (a .shape .height) (a .shape .distance)) (a .held .next) (a .at) (length (a .out .now)) (a .to)) (t .next-round .result) _ (told t) ∙ ap roundAnswer (c .enum-told .given .1))
 
 returns-2 : tie.Need-returns-2
 returns-2 c =
@@ -111,7 +110,7 @@ returns-2 c =
     let a = s .args in
     let p = s .pre in
     let t = c .before .before .before .before in
-    on-refused (planOf (a .z) (a .table .now)) (a .shape) (a .held .next) (a .old-nodes .now) (a .old-marks .now) (a .old-edges .now) (a .held .rides) (a .held .live) (liveAt (a .lists .now)) (a .src .now) (stream (c .before .before .before .before .before .before .before .before)) (a .at) (a .out .now) (a .to) (a .nodes .now) (a .marks .now) (a .edges .now) (p .free) (p .few) (a .lists .now) (a .queued .now) (a .words .now) (p .scratch) (c .before .f .given .0 .0) (read-answer (nextRound (a .src .now) (detectorsOf (a .shape .height) (a .shape .distance)) (a .held .next) (a .at) (length (a .out .now)) (a .to)) (t .next-round .result) _ (told t) ∙ ap roundAnswer (c .before .f .given .1))
+    on-refused (planOf (a .z) (a .table .now)) (a .shape) (a .held .next) (a .old-nodes .now) (a .old-marks .now) (a .old-edges .now) (a .held .rides) (a .held .quiet) (a .src .now) (stream (c .before .before .before .before .before .before .before .before)) (a .at) (a .out .now) (a .to) (a .nodes .now) (a .marks .now) (a .edges .now) (p .free) (a .lists .now) (a .queued .now) (a .words .now) (p .scratch) (c .before .f .given .0 .0) (read-answer (nextRound (a .src .now) (detectorsOf (a .shape .height) (a .shape .distance)) (a .held .next) (a .at) (length (a .out .now)) (a .to)) (t .next-round .result) _ (told t) ∙ ap roundAnswer (c .before .f .given .1))
 
 same-length : tie.Need-same-length
 same-length c = search needs
@@ -123,7 +122,7 @@ returns-3 c =
     let p = s .pre in
     let t = c .before .before .before .before .before .before .before .before .before .before .before .before .before .before .before .before .before in
     let n = c .before .before .before .before .before .before .before .before .before .before .before .before .before .before in
-    on-read (planOf (a .z) (a .table .now)) (a .shape) (a .held .next) (a .old-nodes .now) (a .old-marks .now) (a .old-edges .now) (a .held .rides) (a .held .live) (liveAt (a .lists .now)) (a .src .now) (stream (c .before .before .before .before .before .before .before .before .before .before .before .before .before .before .before .before .before .before .before .before .before)) (a .at) (a .out .now) (a .to) _ (n .behind .given .0 .0) (read-done _ (t .next-round .result) _ (told t) (n .behind .given .0 .0) (n .behind .given .1) ∙ ap (λ (l : List ℕ). done l (n .behind .given .0 .0)) (sym (part-back (full n) _))) _ _ _ _ _ _ _ _ _ (c .before .before .before .before .before .turn .ensures) _ _ (c .before .before .before .record-of .ensures)
+    on-read (planOf (a .z) (a .table .now)) (a .shape) (a .held .next) (a .old-nodes .now) (a .old-marks .now) (a .old-edges .now) (a .held .rides) (a .held .quiet) (a .src .now) (stream (c .before .before .before .before .before .before .before .before .before .before .before .before .before .before .before .before .before .before .before .before .before)) (a .at) (a .out .now) (a .to) _ (n .behind .given .0 .0) (read-done _ (t .next-round .result) _ (told t) (n .behind .given .0 .0) (n .behind .given .1) ∙ ap (λ (l : List ℕ). done l (n .behind .given .0 .0)) (sym (part-back (full n) _))) _ _ _ _ _ _ _ _ (c .before .before .before .before .before .turn .ensures) _ _ (c .before .before .before .record-of .ensures)
 
 pub record-on-spec : {M : Type 1} → statement M
 record-on-spec =

@@ -5,7 +5,7 @@ use lib.ListN.{length}
 use Rattle.flat.specs.Stored.{length-stored}
 use Rattle.flat.specs.declared.Sizes.{Sizes}
 use Rattle.round_step.specs.LawsFalls.{fitting}
-use Rattle.round_step.proofs.Parts.{falls-nodes}
+use Rattle.round_step.proofs.Parts.{clear, falls-nodes}
 use Rattle.round_step.proofs.fall_nodes.Statement.{statement}
 use Rattle.round_step.proofs.fall_nodes.Tie as tie
 
@@ -27,7 +27,11 @@ clear-nodes-requires c κs =
 receive-requires : tie.Need-receive-requires
 receive-requires c κs =
     let s = c .before .before .before .before .before .before in
-    (s .pre .0, (s .pre .1 .1 .0, ap length (c .before .clear-nodes .ensures) ∙ length-stored 512 _ _ _ ∙ ap length (c .before .before .before .sink-nodes .ensures) ∙ length-stored _ _ _ _ ∙ s .pre .1 .1 .1))
+    let sank = ap length (c .before .before .before .sink-nodes .ensures) ∙ length-stored _ _ _ _ ∙ s .pre .1 .1 .1 in
+    let clears = c .before .clear-nodes .ensures in (
+      s .pre .0,
+      (s .pre .1 .1 .0, (ap length clears ∙ length-stored 512 _ _ _ ∙ sank, clear (s .args .shape .height) (s .args .shape .distance) (s .pre .0) (s .args .z .sheet) (ap (λ (z : Sizes). z .sheet) (s .pre .1 .0)) _ _ sank clears)),
+    )
 
 returns : tie.Need-returns
 returns c =

@@ -32,7 +32,6 @@ returns c =
       words-long = l .of-words;
       lists-long = s .queue .long;
       empty = c .unqueue .ensures;
-      kept = s .kept;
       ended = s .ended;
     }
 

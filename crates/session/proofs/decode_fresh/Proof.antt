@@ -1,9 +1,6 @@
 -- `session::decode_fresh` meets its contract: the arrays that are made hold the fresh window. Assumes nothing.
 use mathlib.Core.Path.{sym, _∙_}
-use Prim.Native.Nat.{ℕ}
-use native.Mathlib.Omega.{arith}
 use borrow.Author.Needs.{needs}
-use lib.ListN.{length-replicate}
 use Rattle.steps.specs.Models.{ofModel}
 use Rattle.window.specs.Fresh.{freshWindow}
 use Rattle.starting.specs.Starts.{long-made, scratch-made, none-made, long-fresh, fresh-starts, fresh-shape, fresh-next}
@@ -39,9 +36,8 @@ rounds-on-requires c κs =
       long = long-fresh sh (a .pre) _ (z .sizes .ensures) _ (f .fill .ensures) _ (o .own-marks .ensures);
       free = long-made;
       outside = none-made _ _ _ _ (f .fill .ensures);
-      scratch = scratch-made _ (length-replicate {A = ℕ} 13824 0);
-      few = omega arith;
-      held = (freshWindow (ofModel (sh .model)) sh, fresh-shape sh, fresh-next sh ∙ sym (c .before .before .before .before .before .before .before .before .before .before .before .sheets .ensures), fresh-starts sh (a .pre) _ (z .sizes .ensures) _ (f .fill .ensures) _ (o .own-marks .ensures) _);
+      scratch = scratch-made;
+      held = (freshWindow (ofModel (sh .model)) sh, fresh-shape sh, fresh-next sh ∙ sym (c .before .before .before .before .before .before .before .before .before .before .before .sheets .ensures), fresh-starts sh (a .pre) _ (z .sizes .ensures) _ (f .fill .ensures) _ (o .own-marks .ensures));
     }
 
 same-length : tie.Need-same-length
@@ -55,7 +51,7 @@ returns c =
     let z = f .before .before in
     let a = z .before .before .before in
     let sh = a .args .shape in
-    let e = r .rounds-on .ensures (freshWindow (ofModel (sh .model)) sh) (fresh-shape sh) (fresh-next sh ∙ sym (r .before .before .before .before .before .before .before .before .before .before .before .before .sheets .ensures)) (fresh-starts sh (a .pre) _ (z .sizes .ensures) _ (f .fill .ensures) _ (o .own-marks .ensures) _) in
+    let e = r .rounds-on .ensures (freshWindow (ofModel (sh .model)) sh) (fresh-shape sh) (fresh-next sh ∙ sym (r .before .before .before .before .before .before .before .before .before .before .before .before .sheets .ensures)) (fresh-starts sh (a .pre) _ (z .sizes .ensures) _ (f .fill .ensures) _ (o .own-marks .ensures)) in
     (e .window, e .leaves)
 
 pub decode-fresh-spec : {M : Type 1} → statement M

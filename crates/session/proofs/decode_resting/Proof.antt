@@ -10,7 +10,7 @@ use Rattle.steps.specs.Models.{ofModel}
 use Rattle.window.specs.Fresh.{slots-model}
 use Rattle.closure.specs.Closure.{Kept}
 use Rattle.closure.specs.Facts.{facts}
-use Rattle.starting.specs.Starts.{safe-made, nodes-long, long-made, scratch-made, none-made, lists-long, resting-starts}
+use Rattle.starting.specs.Starts.{safe-made, nodes-long, long-made, scratch-made, none-made, resting-starts}
 use Rattle.session.specs.Ends.{packed-other, packed-first}
 use Rattle.session.proofs.decode_resting.Statement.{statement}
 use Rattle.session.proofs.decode_resting.Tie as tie
@@ -42,20 +42,15 @@ unpack-requires c κs = (c .before .before .before .before .before .before .befo
 rides-requires : tie.Need-rides-requires
 rides-requires c κs = safe-made _ _ _ _ (c .before .before .before .before .before .before .before .before .fill .ensures) _ (c .before .before .before .before .before .before .before .before .before .before .sizes .ensures)
 
-all-live-requires : tie.Need-all-live-requires
-all-live-requires c κs = safe-made _ _ _ _ (c .before .before .before .before .before .before .before .before .before .before .fill .ensures) _ (c .before .before .before .before .before .before .before .before .before .before .before .before .sizes .ensures) .nodes
-
 rounds-on-requires : tie.Need-rounds-on-requires
 rounds-on-requires c κs =
-    let l = c .before .before .before .before .before .before .before .before .before .before .before in
-    let t = l .before .before in
+    let t = c .before .before .before .before .before .before .before .before .before .before .before in
     let u = t .before .before .before .before in
     let f = u .before .before .before .before .before in
     let z = f .before .before in
     let a = z .before .before .before .before in
     let w = a .args .w in
     let U = u .unpack .ensures in
-    let n = safe-made _ _ _ _ (f .fill .ensures) _ (z .sizes .ensures) .nodes in
     record {
       range = record { sizes = ranged a; model = facts (ofModel (a .args .w .shape .model)) (a .args .w) (a .pre .0) .model };
       sizes = z .sizes .ensures;
@@ -63,9 +58,8 @@ rounds-on-requires c κs =
       long = record { of-nodes = U .nodes-long; of-marks = U .marks-long; of-edges = U .edges-long };
       free = long-made;
       outside = none-made _ _ _ _ (f .fill .ensures);
-      scratch = scratch-made _ (lists-long w (kept a) (a .pre .1) _ (z .sizes .ensures) _ (f .fill .ensures) _ _ _ U _ (t .rides .ensures) _ (l .all-live .ensures));
-      few = omega arith;
-      held = (w, refl, refl, resting-starts w (kept a) (a .pre .1) _ (z .sizes .ensures) _ (f .fill .ensures) _ _ _ U _ (t .rides .ensures) _ (l .all-live .ensures));
+      scratch = scratch-made;
+      held = (w, refl, refl, resting-starts w (kept a) (a .pre .1) _ (z .sizes .ensures) _ (f .fill .ensures) _ _ _ U _ (t .rides .ensures));
     }
 
 pack-requires : tie.Need-pack-requires
@@ -77,14 +71,13 @@ same-length c = search needs
 returns : tie.Need-returns
 returns c =
     let r = c .before .before .before .before .before .before .before .before in
-    let l = r .before .before .before .before .before .before .before .before .before .before .before .before in
-    let t = l .before .before in
+    let t = r .before .before .before .before .before .before .before .before .before .before .before .before in
     let u = t .before .before .before .before in
     let f = u .before .before .before .before .before in
     let z = f .before .before in
     let a = z .before .before .before .before in
     let w = a .args .w in
-    packed-other (ofModel (w .shape .model)) w _ _ _ _ _ _ _ _ _ _ _ _ (r .rounds-on .ensures w refl refl (resting-starts w (kept a) (a .pre .1) _ (z .sizes .ensures) _ (f .fill .ensures) _ _ _ (u .unpack .ensures) _ (t .rides .ensures) _ (l .all-live .ensures))) _ (c .before .before .before .before .if1 .taken) (c .pack .ensures)
+    packed-other (ofModel (w .shape .model)) w _ _ _ _ _ _ _ _ _ _ _ _ (r .rounds-on .ensures w refl refl (resting-starts w (kept a) (a .pre .1) _ (z .sizes .ensures) _ (f .fill .ensures) _ _ _ (u .unpack .ensures) _ (t .rides .ensures))) _ (c .before .before .before .before .if1 .taken) (c .pack .ensures)
 
 pack-requires-2 : tie.Need-pack-requires-2
 pack-requires-2 c κs = search needs
@@ -95,14 +88,13 @@ same-length-2 c = search needs
 returns-2 : tie.Need-returns-2
 returns-2 c =
     let r = c .before .before .before .before .before .before .before .before in
-    let l = r .before .before .before .before .before .before .before .before .before .before .before .before in
-    let t = l .before .before in
+    let t = r .before .before .before .before .before .before .before .before .before .before .before .before in
     let u = t .before .before .before .before in
     let f = u .before .before .before .before .before in
     let z = f .before .before in
     let a = z .before .before .before .before in
     let w = a .args .w in
-    packed-first (ofModel (w .shape .model)) w _ _ _ _ _ _ _ _ _ _ _ _ (r .rounds-on .ensures w refl refl (resting-starts w (kept a) (a .pre .1) _ (z .sizes .ensures) _ (f .fill .ensures) _ _ _ (u .unpack .ensures) _ (t .rides .ensures) _ (l .all-live .ensures))) _ (c .before .before .before .before .if1 .left) (c .pack2 .ensures)
+    packed-first (ofModel (w .shape .model)) w _ _ _ _ _ _ _ _ _ _ _ _ (r .rounds-on .ensures w refl refl (resting-starts w (kept a) (a .pre .1) _ (z .sizes .ensures) _ (f .fill .ensures) _ _ _ (u .unpack .ensures) _ (t .rides .ensures))) _ (c .before .before .before .before .if1 .left) (c .pack2 .ensures)
 
 pub decode-resting-spec : {M : Type 1} → statement M
 decode-resting-spec =
@@ -112,7 +104,6 @@ decode-resting-spec =
     fill-requires
     unpack-requires
     rides-requires
-    all-live-requires
     rounds-on-requires
     pack-requires
     same-length

@@ -1,96 +1,77 @@
--- `top_sheet::receive` meets its contract: the rows passed have their bytes. Assumes nothing.
-use mathlib.Core.Path.{_≡_}
-use Prim.Native.Nat.{_≤_, _-_, _+_, _*_}
+-- `top_sheet::receive` meets its contract: the bytes passed are put. Assumes nothing.
+use mathlib.Core.Path.{_≡_, sym, _∙_, ap, subst}
+use mathlib.Core.List.{List}
+use Prim.Native.Nat.{ℕ, _≤_, _-_, _+_}
 use native.Mathlib.Omega.{arith}
-use Rattle.flat.specs.LawsEntries.{one-more, row-fits, row-low, at-end}
+use lib.ListN.{length}
 use Rattle.shape.specs.Ranges.{ranged}
+use Rattle.shape.specs.Sizes.{detectorsOf}
 use Rattle.shape.specs.LawsSizes.{detectors-le}
-use Rattle.top_sheet.specs.Received.{Received}
-use Rattle.top_sheet.specs.LawsReceived.{received-none, received-next}
+use Rattle.top_sheet.specs.Received.{Received, putFrom}
+use Rattle.top_sheet.specs.LawsReceived.{put-none, part-on, place-low, received}
+use borrow.Author.Needs.{needs}
 use Rattle.top_sheet.proofs.receive.Statement.{statement}
 use Rattle.top_sheet.proofs.receive.Tie as tie
 
 abbrev Inv-loop : tie.InvT-loop
-Inv-loop bytes nodes₀ h d at₀ from₀ r₀ nodes at from r = (r ≤ h) × (at ≡ 513 + r * (d + 1)) × (from ≡ r * (d - 1)) × Received r d bytes nodes₀ nodes
+Inv-loop bytes nodes₀ d j₀ nodes j = (j ≤ length bytes) × (nodes ≡ putFrom d bytes 0 j nodes₀)
 
 abbrev μ-loop : tie.MeasureT-loop
-μ-loop bytes nodes₀ h d at₀ from₀ r₀ nodes at from r = h - r
-
-cast-h : tie.Need-cast-h Inv-loop μ-loop
-cast-h c = omega arith
+μ-loop bytes nodes₀ d j₀ nodes j = length bytes - j
 
 cast-d : tie.Need-cast-d Inv-loop μ-loop
-cast-d c = omega arith
-
-add-at : tie.Need-add-at Inv-loop μ-loop
-add-at c = omega arith
+cast-d c = search needs
 
 loop-holds : tie.Need-loop-holds Inv-loop μ-loop
-loop-holds c = let s = c .before .before .before in (omega arith, omega arith, omega arith, received-none (s .args .shape .distance) _ _)
+loop-holds c = let a = c .before .before .args in (omega arith, put-none (a .shape .distance) (a .bytes .now) 0 (a .nodes .now))
 
-sub-receive-row : tie.Need-sub-receive-row Inv-loop μ-loop
-sub-receive-row c = let s = c .before .before .before .before .before in omega (arith, ranged (s .args .shape .height) (s .args .shape .distance) (s .pre .0) .d2)
+add-loop : tie.Need-add-loop Inv-loop μ-loop
+add-loop c = omega arith
 
-receive-row-requires : tie.Need-receive-row-requires Inv-loop μ-loop
-receive-row-requires c κs =
-    let s = c .before .before .before .before .before .before in
-    let l = c .before .before .loop in
-    let t = c .before .loop-test .taken in
-    let r = ranged (s .args .shape .height) (s .args .shape .distance) (s .pre .0) in
-    let p = l .inv .1 in
-    let q = l .inv .2 in
+put-block-requires : tie.Need-put-block-requires Inv-loop μ-loop
+put-block-requires c κs =
+    let s = c .before .before .before .before .before in
+    let h = s .args .shape .height in
+    let d = s .args .shape .distance in
+    let x = ranged h d (s .pre .0) in
     let n = s .pre .1 .0 in
-    (omega (arith, r .d2, row-low _ _ (l .r) r t), omega (arith, row-fits (l .r) _ (s .args .shape .distance - 1) t))
+    ((x .d2, x .d-max, c .before .loop-test .taken), λ j l. place-low h d x (s .args .bytes .now) (s .args .nodes .now) j (omega (arith, l, n)))
 
-add-at-2 : tie.Need-add-at-2 Inv-loop μ-loop
-add-at-2 c = let s = c .before .before .before .before .before .before .before in omega (arith, ranged (s .args .shape .height) (s .args .shape .distance) (s .pre .0) .d-max)
-
-add-at-3 : tie.Need-add-at-3 Inv-loop μ-loop
-add-at-3 c =
-    let s = c .before .before .before .before .before .before .before in
-    let l = c .before .before .before .loop in
-    let p = l .inv .1 in
-    omega (arith, row-low _ _ (l .r) (ranged (s .args .shape .height) (s .args .shape .distance) (s .pre .0)) (c .before .before .loop-test .taken))
-
-sub-from : tie.Need-sub-from Inv-loop μ-loop
-sub-from c = let s = c .before .before .before .before .before .before .before in omega (arith, ranged (s .args .shape .height) (s .args .shape .distance) (s .pre .0) .d2)
-
-add-from : tie.Need-add-from Inv-loop μ-loop
-add-from c =
-    let s = c .before .before .before .before .before .before .before in
-    let l = c .before .before .before .loop in
-    let r = ranged (s .args .shape .height) (s .args .shape .distance) (s .pre .0) in
-    let q = l .inv .2 in
-    omega (arith, row-fits (l .r) _ (s .args .shape .distance - 1) (c .before .before .loop-test .taken), detectors-le _ _ r)
-
-add-r : tie.Need-add-r Inv-loop μ-loop
-add-r c =
-    let s = c .before .before .before .before .before .before .before in
-    omega (arith, c .before .before .loop-test .taken, ranged (s .args .shape .height) (s .args .shape .distance) (s .pre .0) .h-max)
+add-j : tie.Need-add-j Inv-loop μ-loop
+add-j c = omega arith
 
 loop-less : tie.Need-loop-less Inv-loop μ-loop
-loop-less c = omega (arith, c .before .before .loop-test .taken)
+loop-less c = omega arith
 
 loop-again : tie.Need-loop-again Inv-loop μ-loop
 loop-again c =
-    let s = c .before .before .before .before .before .before .before in
+    let a = c .before .before .before .before .before .before .args in
     let l = c .before .before .before .loop in
-    let t = c .before .before .loop-test .taken in
+    (c .before .before .loop-test .taken, part-on (a .shape .distance) (a .bytes .now) (l .j) 16 (a .nodes .now) (l .nodes) _ (l .inv .1) (c .put-block .ensures))
+
+sub-put-part : tie.Need-sub-put-part Inv-loop μ-loop
+sub-put-part c = omega arith
+
+put-part-requires : tie.Need-put-part-requires Inv-loop μ-loop
+put-part-requires c κs =
+    let s = c .before .before .before .before .before in
+    let h = s .args .shape .height in
     let d = s .args .shape .distance in
-    let r = ranged (s .args .shape .height) d (s .pre .0) in
-    let p = l .inv .1 in
-    let q = l .inv .2 in (
-      omega arith,
-      omega (arith, one-more (l .r) (d + 1)),
-      omega (arith, one-more (l .r) (d - 1)),
-      received-next d (s .args .bytes .now) (s .args .nodes .now) (r .d2) (s .pre .1 .1) (l .r) (l .at) (l .from) (omega (arith, r .d2, row-low _ d (l .r) r t)) p q (l .nodes) (c .receive-row .last .1 .1 .1 .1 .0) (l .inv .3) (c .receive-row .ensures),
-    )
+    let x = ranged h d (s .pre .0) in
+    let n = s .pre .1 .0 in
+    ((x .d2, x .d-max, omega (arith, c .before .before .loop .inv .0)), λ j l. place-low h d x (s .args .bytes .now) (s .args .nodes .now) j (omega (arith, l, n)))
 
 returns : tie.Need-returns Inv-loop μ-loop
 returns c =
-    let s = c .before .before .before .before .before in
-    let l = c .before .loop in
-    at-end (s .args .shape .height) (l .r) (λ k. Received k (s .args .shape .distance) (s .args .bytes .now) (s .args .nodes .now) (l .nodes)) (l .inv .0) (c .loop-test .left) (l .inv .3)
+    let s = c .before .before .before .before .before .before in
+    let a = s .args in
+    let h = a .shape .height in
+    let d = a .shape .distance in
+    let l = c .before .before .before .loop in
+    let n = length (a .bytes .now) in
+    let e : l .j + (n - l .j) ≡ detectorsOf h d = omega (arith, l .inv .0, s .pre .1 .0) in
+    let all = part-on d (a .bytes .now) (l .j) (n - l .j) (a .nodes .now) (l .nodes) _ (l .inv .1) (c .put-part .ensures) ∙ ap (λ (k : ℕ). putFrom d (a .bytes .now) 0 k (a .nodes .now)) e in
+    subst (λ (m : List ℕ). Received h d (a .bytes .now) (a .nodes .now) m) (sym all) (received h d (ranged h d (s .pre .0)) (a .bytes .now) (a .nodes .now) (s .pre .1 .1 .0) (s .pre .1 .1 .1))
 
 pub receive-spec : {M : Type 1} → statement M
 receive-spec =
@@ -98,17 +79,13 @@ receive-spec =
     (tie.spec
     Inv-loop
     μ-loop
-    cast-h
     cast-d
-    add-at
     loop-holds
-    sub-receive-row
-    receive-row-requires
-    add-at-2
-    add-at-3
-    sub-from
-    add-from
-    add-r
+    add-loop
+    put-block-requires
+    add-j
     loop-less
     loop-again
+    sub-put-part
+    put-part-requires
     returns)
