@@ -3,10 +3,11 @@
 //! `decoder` is a second decoder, which `decoding` takes through a whole stream, and `account` holds it to the law;
 //! `replay` plays scripts of `crates/replay` on it. `script` writes these, the stored one too, and random lists of calls;
 //! `image` has the windows that they edit. `stages` counts the steps of merging stages, and `tightest` has
-//! rounds with long ones. `dense` and `sparse` are decoders for the benchmark, a plain and a fast one.
+//! rounds with long ones. `benchmark` makes its tables; `dense` and `sparse` are decoders for it, a plain and a fast one.
 //! `cases`, `random` and `noise` make inputs, and `tally` and `covered` count what came of them; `repository` finds files.
 
 pub mod account;
+pub mod benchmark;
 pub mod cases;
 pub mod compare;
 pub mod covered;

@@ -30,6 +30,3 @@ module _ (Q : ℕ → ℕ → Type 0) (words : List ℕ) where
             subst (λ (k : ℕ). Q k (getD (set words i w) k 0)) s (subst (λ (v : ℕ). Q i v) (sym (getD-set-same words i w 0 (omega (arith, e .long)))) q))
             (order j i);
       }
-
-pub each-map : {Q R : ℕ → ℕ → Type 0} {count : ℕ} {words : List ℕ} → ((i w : ℕ) → Q i w → R i w) → Each Q count words → Each R count words
-each-map f e = record { long = e .long; told = λ i h. f i _ (e .told i h) }

@@ -2,17 +2,17 @@
 use Prim.Native.Nat.{ℕ, _≤_, _<_}
 use native.Mathlib.Omega.{arith}
 use mathlib.Core.Path.{_≡_, ap, _∙_, subst, fun-ext}
-use mathlib.Core.Bool.{Bool, true, _&&_}
+use mathlib.Core.Bool.{Bool, true}
 use mathlib.Core.List.{List, []}
 use lib.ListN.{getD, length}
 use Rattle.shape.specs.Choice.{if}
-use Rattle.flat.specs.Codes.{activeOf, defectOf, unrootedOf, pointerOf, growthOf, correctionOf}
-use Rattle.flat.specs.Entries.{State, stateOf, plane, cell, within}
+use Rattle.flat.specs.Codes.{activeOf, defectOf, unrootedOf, pointerOf, growthOf}
+use Rattle.flat.specs.Entries.{State, stateOf, plane, within}
 use Rattle.flat.specs.Laid.{laid, length-laid, laid-seen}
 use Rattle.flat.specs.LawsCodes.{node-active, node-defect, node-unrooted, node-pointer}
 use Rattle.flat.specs.Plan.{Plan}
-use Rattle.flat.specs.Rule.{floodOf, activeAfter, defectAfter, unrootedAfter, stirs, correctionAfter}
-use Rattle.flat.specs.Step.{named, sending, busyIn, Passed}
+use Rattle.flat.specs.Rule.{floodOf, activeAfter, defectAfter, unrootedAfter, stirs}
+use Rattle.flat.specs.Step.{named, busyIn, Passed}
 use Rattle.node_step.specs.After.{numberAfter, Tells}
 use Rattle.flat.specs.LawsEntries.{inside}
 use Rattle.node_step.specs.Words.{markIn, nodeIn, stirIn}
@@ -47,7 +47,7 @@ module _ (P : Plan) (nodes marks edges : List ℕ) (count : ℕ) (list : ℕ →
     pub busy-same : (b : Bool) → b ≡ busyIn P (stateOf nodes marks edges') count list → b ≡ busyIn P st count list
     busy-same b t = subst (λ (g : ℕ → ℕ). b ≡ busyIn P (by g) count list) growths t
 
-  module _ (s : Bool) (is : s ≡ sending P st count list) (edges' words : List ℕ) (flipped : Flipped P (stateOf nodes [] edges) count list n s edges')
+  module _ (s : Bool) (edges' words : List ℕ) (flipped : Flipped P (stateOf nodes [] edges) count list s edges')
       (told : Each (λ i. Tells P (stateOf nodes marks edges') s (list i)) count words) (long-nodes : length nodes ≡ plane) (long-marks : length marks ≡ plane) where
     abbrev nodes' : List ℕ
     nodes' = laid list (λ i. nodeIn (getD words i 0)) count nodes
@@ -73,7 +73,7 @@ module _ (P : Plan) (nodes marks edges : List ℕ) (count : ℕ) (list : ℕ →
           active = seen activeOf (activeAfter P st)
               (λ y w t. ap activeOf (part y w t) ∙ node-active (activeAfter P st y) (defectAfter P st s y) (unrootedAfter P st y) (floodOf P st y .pointer));
           defect = λ x w.
-              subst (λ (b : Bool). defectOf (getD nodes' x 0) ≡ if (named list count x) (defectAfter P st b x) (defectOf (getD nodes x 0))) is
+              subst (λ (b : Bool). defectOf (getD nodes' x 0) ≡ if (named list count x) (defectAfter P st b x) (defectOf (getD nodes x 0))) (flipped .some)
               (seen defectOf (defectAfter P st s)
               (λ y w t. ap defectOf (part y w t) ∙ node-defect (activeAfter P st y) (defectAfter P st s y) (unrootedAfter P st y) (floodOf P st y .pointer)) x w);
           unrooted = seen unrootedOf (unrootedAfter P st)
@@ -85,9 +85,7 @@ module _ (P : Plan) (nodes marks edges : List ℕ) (count : ℕ) (list : ℕ →
               laid-seen (λ v. v) list (λ i. markIn (getD words i 0)) marks 0 x (omega arith) (floodOf P st x .mark) count
               (λ i h p. subst (λ (y : ℕ). markIn (getD words i 0) ≡ floodOf P st y .mark) p (word i h .mark-back));
           growth = flipped .growth;
-          correction = λ kind x h w.
-              subst (λ (b : Bool). correctionOf (getD edges' (cell kind x) 0) ≡ if (b && named list count x) (correctionAfter P st kind x) (st .correction (cell kind x))) is
-              (flipped .correction kind x h w);
+          correction = flipped .correction;
         }
 
     pub step-done : (busy : Bool) → busy ≡ busyIn P (stateOf nodes marks edges') count list → PassLeaves P st count list n busy nodes' marks' edges' words
@@ -104,5 +102,5 @@ module _ (P : Plan) (nodes marks edges : List ℕ) (count : ℕ) (list : ℕ →
                 };
                 of-words = told .long;
               };
-          stirring = λ i h. subst (λ (b : Bool). stirIn (getD words i 0) ≡ stirs P st b (list i)) is (word i h .stir-back);
+          stirring = λ i h. subst (λ (b : Bool). stirIn (getD words i 0) ≡ stirs P st b (list i)) (flipped .some) (word i h .stir-back);
         }

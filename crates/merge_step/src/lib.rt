@@ -6,12 +6,8 @@ use flat::PLANES;
 use flat::Sizes;
 use flat::TABLE;
 ghost use mathlib.Core.Path.{_≡_};
-ghost use mathlib.Core.Bool.{_&&_, not};
 ghost use Prim.Native.Nat.{ℕ, _+_, _≤_, _<_};
-ghost use lib.Dec.{eqb};
 ghost use lib.ListN.{getD, length};
-ghost use Rattle.window.specs.Lists.{any};
-ghost use Rattle.flat.specs.Codes.{defectOf, pointerOf};
 ghost use Rattle.flat.specs.Entries.{stateOf};
 ghost use Rattle.flat.specs.Laid.{laid};
 ghost use Rattle.flat.specs.Plan.{planOf, Safe};
@@ -20,22 +16,6 @@ ghost use Rattle.node_step.specs.After.{Tells};
 ghost use Rattle.node_step.specs.Words.{markIn, nodeIn};
 ghost use Rattle.edge_step.specs.Each.{Each};
 ghost use Rattle.merge_step.specs.Pass.{AllLong, PassLeaves};
-
-// Whether a listed node sends its defect along.
-fn senders(from: usize, count: usize, nodes: &[u8; PLANE], lists: &[u16; LISTS]) -> bool
-    requires { ⌜ (from + count ≤ 13824) × (count ≤ 4608) ⌝ }
-    requires { ⌜ ((i : ℕ) → i < count → listAt (now lists) from i < 4608) ⌝ }
-    ensures { λ r. ⌜ r ≡ any count (λ i. defectOf (getD (now (nodes .entry)) (listAt (now (lists .entry)) from i) 0) && not (eqb (pointerOf (getD (now (nodes .entry)) (listAt (now (lists .entry)) from i) 0)) 0)) ⌝ }
-{
-    let mut found = false;
-    let mut i: usize = 0;
-    while i < count {
-        let x = lists[from + i] as usize;
-        found = found | syncing::sends(nodes[x]);
-        i += 1;
-    }
-    found
-}
 
 // What becomes of each listed node, in a word; and whether one of them is busy.
 fn gather(
@@ -110,8 +90,7 @@ pub fn pass(
     requires { ⌜ AllLong (now nodes) (now marks) (now edges) (now words) ⌝ }
     ensures { λ r. ⌜ PassLeaves (planOf z (now (table .entry))) (stateOf (now (nodes .entry)) (now (marks .entry)) (now (edges .entry))) count (listAt (now (lists .entry)) from) (z .nodes) r (now (nodes .exit)) (now (marks .exit)) (now (edges .exit)) (now (words .exit)) ⌝ }
 {
-    let sending = senders(from, count, nodes, lists);
-    edge_step::flips(sending, z, from, count, nodes, edges, table, lists, words);
+    let sending = edge_step::flips(z, from, count, nodes, edges, table, lists, words);
     let busy = gather(
         sending,
         z,

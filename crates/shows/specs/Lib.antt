@@ -13,6 +13,7 @@ pub mod Read
 pub mod Same
 -- a pass over a work list is a merging step
 pub mod Named
+pub mod Turned
 pub mod Pass
 -- grow
 pub mod Sheets

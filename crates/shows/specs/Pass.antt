@@ -1,14 +1,16 @@
 -- A PASS OVER A WORK LIST is a merging step: it takes a list that covers to a state that shows the next window, and to a list that covers
 -- there. Where pointers do not ride, the list names all nodes and stays. Assumes nothing.
-use Prim.Native.Nat.{ℕ, _+_, _-_, _<_}
+use Prim.Native.Nat.{ℕ, _+_, _-_, _≤_, _<_}
 use native.Mathlib.Omega.{arith}
 use mathlib.Core.Path.{_≡_, refl, sym, _∙_, ap, ap₂, subst}
 use mathlib.Core.Bool.{Bool, true, false, _&&_, _||_, not}
+use mathlib.Core.Logic.{⊎-elim}
+use borrow.Author.Tests.{eqb-true, ne-eqb}
 use lib.Dec.{eqb}
 use lib.ListN.{length, getD}
 use Rattle.refusal.specs.Laws.{undone}
 use Rattle.shape.specs.Choice.{if, whether}
-use Rattle.shape.specs.Ranges.{halves}
+use Rattle.shape.specs.Ranges.{halves, both}
 use Rattle.steps.specs.Steps.{Table, step, namer, slotIn}
 use Rattle.steps.specs.Suited.{Suited, namer-names}
 use Rattle.window.specs.Lists.{any, xor}
@@ -26,18 +28,19 @@ use Rattle.closure.specs.Lists.{either, other, any-at}
 use Rattle.closure.specs.Scan.{arrivals-none}
 use Rattle.closure.specs.Sight.{seen-edge, seen-none}
 use Rattle.closure.specs.Ways.{direction}
-use Rattle.flat.specs.Entries.{State, entry, cell, overBy}
+use Rattle.flat.specs.Entries.{State, margin, entry, cell, overBy}
 use Rattle.flat.specs.Plan.{Plan}
 use Rattle.flat.specs.Rule.{floodOf, arrived, sender, defectAfter, busyAt, stirs, correctionAfter}
-use Rattle.flat.specs.Step.{named, Places, sending, busyIn, Passed, Follows}
+use Rattle.flat.specs.Step.{named, Places, edgeAlong, bitAlong, sending, busyIn, Unturned, Passed, Follows}
 use Rattle.shows.specs.Planned.{Planned}
 use Rattle.shows.specs.Shows.{nodeAt, Shows}
 use Rattle.shows.specs.Open.{arrivals-same}
 use Rattle.shows.specs.Riding.{neighbour, Riding, sendsAlong, pushes-is, pushes-over}
-use Rattle.shows.specs.Quiet.{Quiet, Covers, AllQuiet, moved, settled-not, quiet-sends, sends-none}
+use Rattle.shows.specs.Quiet.{Covers, AllQuiet, moved, settled-not, quiet-sends, sends-none}
 use Rattle.shows.specs.Next.{riding-merged, next-covers}
-use Rattle.shows.specs.Read.{node-within-entry, place-node, way-is, pointer-entry, pointer-open}
+use Rattle.shows.specs.Read.{node-within-entry, place-node, way-is, pointer-entry, pointer-open, named-cell}
 use Rattle.shows.specs.Same.{looks, arrivals-flat, seen-flat, nextAt, step-flat, bit-flat}
+use Rattle.shows.specs.Turned.{edge-back, turned-bit}
 use Rattle.shows.specs.Named.{named-found, named-same, listed-at, any-found, same-test}
 
 -- WHILE CLUSTERS MERGE
@@ -103,11 +106,38 @@ module _ (T : Table) (S : Suited T) (P : Plan) (w : Window) (st : State) (rides 
       rw s)
       ∙ sym (G .shows .correction kind g m l)
 
-  quiet-bit : (kind g : ℕ) → kind < T .kinds → g < size w → Quiet T w g → correctionAfter P st kind (entry g) ≡ st .correction (cell kind (entry g))
-  quiet-bit kind g m l q =
-      bit-stays kind g m l (sends-none (at w g) (namer T kind) (namer-names T S kind m .pointer .0) (quiet-sends T w g F l (q .still))) (λ e. q .bits (namer T kind) e)
+  -- a node along whose pointer nothing is turned sends nothing along it
+  unsent-along : (e : ℕ) → Unturned P st count list e → (g p : ℕ) → g < size w → 1 ≤ p → overBy (entry g) (P .slot (p - 1)) ≡ e → sendsAlong (at w g) p ≡ false
+  unsent-along e none g p l i is =
+      whether (sendsAlong (at w g) p)
+      (λ t.
+      let h = halves (at w g .defect) _ t in
+      let q : at w g .pointer ≡ p = eqb-true _ _ (h .1) in
+      let z : eqb (at w g .pointer) 0 ≡ false = ne-eqb _ _ (λ (y : at w g .pointer ≡ 0). omega arith) in
+      let s = both (at w g .defect) _ (h .0) (ap not z) in
+      let own : st .pointer (entry g) ≡ p = ap (λ (n : Node). n .pointer) (G .shows .nodes g l) ∙ q in
+      absurd
+      (whether (named list count (entry g))
+      (λ n.
+      let r = named-found list count (entry g) n in
+      none (r .0) (r .1) (ap (sender P st) (r .2) ∙ sent-is g l ∙ s) (ap (edgeAlong P st) (r .2) ∙ ap (λ (y : ℕ). overBy (entry g) (P .slot (y - 1))) own ∙ is))
+      (λ n. undone (sym s ∙ quiet-sends T w g F l (G .covers g l n .still)))))
+      (λ t. t)
 
-  -- NO LISTED NODE SENDS: then none does, no bit turns and nothing arrives
+  unturned-stays : (kind g : ℕ) → kind < T .kinds → g < size w → Unturned P st count list (cell kind (entry g))
+      → correctionAfter P st kind (entry g) ≡ st .correction (cell kind (entry g))
+  unturned-stays kind g m l none =
+      let p = namer T kind in
+      let i = namer-names T S kind m .pointer in
+      let c = G .planned .namers kind m in
+      let x : p - 1 ≡ P .namer kind = omega arith in
+      let here = ap (λ (j : ℕ). overBy (entry g) (P .slot j)) x ∙ named-cell T S w F st (G .shows) P (G .planned) kind g m l in
+      bit-stays kind g m l (unsent-along _ none g p l (i .0) here)
+      (λ e.
+      unsent-along _ none (to w T p g .node) (step T p .back) (node-within T w (F .ranged) p g e) (S .proper .opposed p i .back .0)
+      (edge-back T S w (G .kept) (G .merging) st (G .shows) P (G .planned) g p l e ∙ here))
+
+  -- NO LISTED NODE SENDS: then none does, and nothing arrives
   module _ (none : sending P st count list ≡ false) where
     silent : (g : ℕ) → g < size w → (at w g .defect && not (eqb (at w g .pointer) 0)) ≡ false
     silent g l =
@@ -118,9 +148,6 @@ module _ (T : Table) (S : Suited T) (P : Plan) (w : Window) (st : State) (rides 
     silent-over : (g p : ℕ) → to w T p g .there ≡ true → sendsAlong (neighbour T w g p) (step T p .back) ≡ false
     silent-over g p e =
         sends-none (neighbour T w g p) (step T p .back) (S .proper .opposed p (direction T w g p e) .back .0) (silent (to w T p g .node) (node-within T w (F .ranged) p g e))
-
-    bit-silent : (kind g : ℕ) → kind < T .kinds → g < size w → correctionAfter P st kind (entry g) ≡ st .correction (cell kind (entry g))
-    bit-silent kind g m l = bit-stays kind g m l (sends-none (at w g) (namer T kind) (namer-names T S kind m .pointer .0) (silent g l)) (λ e. silent-over g (namer T kind) e)
 
     unpushed : (g j : ℕ) → seen T w g j .pushes ≡ false
     unpushed g j =
@@ -201,12 +228,16 @@ module _ (T : Table) (S : Suited T) (P : Plan) (w : Window) (st : State) (rides 
 
     bit-shows : (kind g : ℕ) → kind < T .kinds → g < size w → st' .correction (cell kind (entry g)) ≡ getD (merged T w .correction) (slotIn (size w) kind g) false
     bit-shows kind g m l =
-        A .correction kind (entry g) (rw (G .planned .kinds) m) (node-within-entry (size w) g l)
-        ∙ whether (sending P st count list)
-        (λ s. whether (named list count (entry g))
-        (λ t. rw (s, t) (sym (bit-is kind g m l)))
-        (λ t. rw (s, t) (sym (bit-is kind g m l ∙ quiet-bit kind g m l (G .covers g l t)))))
-        (λ s. rw s (sym (bit-is kind g m l ∙ bit-silent s kind g m l)))
+        let e = cell kind (entry g) in
+        ⊎-elim
+        (λ r.
+        let x = list (r .0) in
+        let q = place-node (size w) x (G .places (r .0) (r .1)) in
+        let says = subst (λ (y : ℕ). sender P st y ≡ true → edgeAlong P st y ≡ e → bitAlong P st y ≡ correctionAfter P st kind (entry g)) (q .1)
+        (turned-bit T S w (G .kept) (G .merging) st (G .shows) P (G .planned) kind g (x - margin) m l (q .0)) in
+        r .4 ∙ says (r .2) (r .3) ∙ sym (bit-is kind g m l))
+        (λ r. r .1 ∙ sym (bit-is kind g m l ∙ unturned-stays kind g m l (r .0)))
+        (A .correction e)
 
     pub pass-shows : Shows T (merged T w) st'
     unfolding merged

@@ -2,7 +2,7 @@
 -- window's; where there is no edge the state says so, be it in a margin or for another node. Assumes nothing.
 use Prim.Native.Nat.{ℕ, _+_, _-_, _≤_, _<_}
 use native.Mathlib.Omega.{arith}
-use mathlib.Core.Path.{_≡_, refl, sym, _∙_, ap, subst}
+use mathlib.Core.Path.{_≡_, refl, sym, _∙_, ap, ap₂, subst}
 use mathlib.Core.Bool.{Bool, true, false, _&&_}
 use borrow.Author.Tests.{leb-true, ltb-true, lt-ltb, le-leb}
 use lib.Dec.{leb, eqb}
@@ -214,6 +214,17 @@ module _ (T : Table) (S : Suited T) (w : Window) (F : Facts T w) (st : State) (H
 
     pub pointer-open : eqb (st .growth (overBy (entry g) (P .slot (p - 1)))) 2 ≡ opens T w g p
     pointer-open = let i = way-is T w g p e in flat-open g (p - 1) l (i .1) ∙ ap (opens T w g) (i .0)
+
+    -- its edge stands at its own entry, or at the other end's
+    pub pointer-own : step T p .own ≡ true → overBy (entry g) (P .slot (p - 1)) ≡ cell (step T p .kind) (entry g)
+    pointer-own o = let i = way-is T w g p e in own-cell g (p - 1) l (i .1) (rw (i .0) o) ∙ ap (λ (q : ℕ). cell (step T q .kind) (entry g)) (i .0)
+
+    pub pointer-other : step T p .own ≡ false → overBy (entry g) (P .slot (p - 1)) ≡ cell (step T p .kind) (entry (to w T p g .node))
+    pointer-other o =
+        let i = way-is T w g p e in
+        let f = pointer-entry in
+        let c : g + P .off (p - 1) ≡ entry (to w T p g .node) = omega arith in
+        other-cell g (p - 1) l (i .1) (rw (i .0) o) ∙ ap₂ (λ (q y : ℕ). cell (step T q .kind) y) (i .0) c
 
   -- the direction in which a node names its edge of a kind
   pub named-way : (kind : ℕ) → kind < T .kinds → P .namer kind < length (T .steps)

@@ -289,6 +289,9 @@ module _ (T : Table) (S : Suited T) (w : Window) (k : Kept T w) (merging : isMer
   pointer-is : st .pointer x ≡ at w g .pointer
   pointer-is = ap (λ (y : Node). y .pointer) (H .nodes g l)
 
+  pub pointer-there : (st .pointer x ≡ 0 → ⊥) → to w T (st .pointer x) g .there ≡ true
+  pointer-there n = subst (λ (q : ℕ). to w T q g .there ≡ true) (sym pointer-is) (pointing (F .nodes g l .pointer) (λ z. n (pointer-is ∙ z)))
+
   leads : (st .pointer x ≡ 0 → ⊥) → (st .pointer x - 1 < P .dirs) × (eqb (st .growth (overBy x (P .slot (st .pointer x - 1)))) noEdge ≡ false)
   leads n =
       let p = at w g .pointer in

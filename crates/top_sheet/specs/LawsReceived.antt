@@ -12,7 +12,7 @@ use lib.Bits.{bitOr, or-add-and, and-le-l, and-le-r}
 use lib.Dec.{eqb}
 use lib.ListN.{length, getD, set, length-set}
 use lib.Seq.{getD-set-same, getD-set-other}
-use Rattle.shape.specs.Choice.{if, if-true, if-false, whether, order}
+use Rattle.shape.specs.Choice.{if-true, if-false, whether, order}
 use Rattle.shape.specs.Counting.{quotient, rest}
 use Rattle.shape.specs.Ranges.{Ranged}
 use Rattle.shape.specs.Sizes.{detectorsOf}

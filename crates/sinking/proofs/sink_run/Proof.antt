@@ -1,5 +1,4 @@
 -- `sinking::sink_run` meets its contract: of marks that are the nodes' own the table has the lowered ones. Assumes nothing.
-use native.Mathlib.Omega.{arith}
 use borrow.Author.Needs.{needs}
 use Rattle.sinking.specs.LawsSunk.{own-run}
 use Rattle.sinking.proofs.sink_run.Statement.{statement}

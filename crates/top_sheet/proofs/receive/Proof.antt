@@ -6,7 +6,6 @@ use native.Mathlib.Omega.{arith}
 use lib.ListN.{length}
 use Rattle.shape.specs.Ranges.{ranged}
 use Rattle.shape.specs.Sizes.{detectorsOf}
-use Rattle.shape.specs.LawsSizes.{detectors-le}
 use Rattle.top_sheet.specs.Received.{Received, putFrom}
 use Rattle.top_sheet.specs.LawsReceived.{put-none, part-on, place-low, received}
 use borrow.Author.Needs.{needs}
