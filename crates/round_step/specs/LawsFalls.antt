@@ -1,15 +1,14 @@
--- A shape's sizes fit the arrays, a node's number, lowered, is that of the node below in the table, and a shown window has no corrected edge up from its top sheet, as a round asks. Assumes nothing.
+-- A shape's sizes fit the arrays, and a shown window has no corrected edge up from its top sheet, as a round asks. Assumes nothing.
 use Prim.Native.Nat.{ℕ, _+_, _-_, _*_, _≤_, _<_}
 use native.Mathlib.Nat.{mul-le-mul, mul-one}
 use native.Mathlib.Omega.{arith}
-use mathlib.Core.Path.{_≡_, sym, _∙_, ap}
+use mathlib.Core.Path.{_≡_, _∙_}
 use mathlib.Core.Bool.{true, false, _&&_, not}
 use mathlib.Core.List.{List}
 use borrow.Author.Tests.{not-true}
 use lib.ListN.{getD}
 use Rattle.shape.specs.Choice.{whether}
-use Rattle.shape.specs.LawsIndex.{nodes-max, place-index, index-place}
-use Rattle.shape.specs.Nodes.{numberOf, placeAt, indexOf}
+use Rattle.shape.specs.LawsIndex.{nodes-max}
 use Rattle.shape.specs.Ranges.{halves, ranged, in-range}
 use Rattle.shape.specs.Sizes.{inRange, sheetsOf, nodesOf}
 use Rattle.steps.specs.Steps.{Table, namer, slotIn}
@@ -19,15 +18,12 @@ use Rattle.window.specs.Window.{size, sheet, present, place, to}
 use Rattle.window.specs.declared.Window.{Window}
 use Rattle.closure.specs.Closure.{Kept}
 use Rattle.closure.specs.Edges.{edge}
-use Rattle.closure.specs.Facts.{Facts, facts, inside-at}
-use Rattle.closure.specs.Lower.{lower, index-lower, top}
-use Rattle.closure.specs.LowerNumbers.{number-lowered}
-use Rattle.flat.specs.Entries.{entry, stateOf}
+use Rattle.closure.specs.Facts.{Facts, facts}
+use Rattle.closure.specs.Lower.{top}
+use Rattle.flat.specs.Entries.{stateOf}
 use Rattle.shows.specs.Shows.{Shows}
 use Rattle.shows.specs.Sinks.{goes-up}
-use Rattle.plan.specs.Filled.{Filled, sheets-are, sheet-most}
-use Rattle.sinking.specs.Sunk.{thresholdsOf, loweredBy}
-use Rattle.sinking.specs.LawsSunk.{lowered-number}
+use Rattle.plan.specs.Filled.{sheets-are, sheet-most}
 use Rattle.round_step.specs.Falls.{NoneAbove}
 
 -- there are three sheets or more
@@ -46,27 +42,6 @@ fitting h d ok =
     let o = mul-one n in
     let e = sheets-are h d ok in
     record { most = nodes-max h d; sheet = sheet-most h d ok; two = omega arith }
-
--- the table's numbers, one sheet lower
-module _ (T : Table) (h d : ℕ) (ok : inRange h d ≡ true) (table : List ℕ) (F : Filled T h d table) where
-  below : (a : ℕ) → a < nodesOf h d → placeAt h d (a + h * (d + 1)) ≡ lower (placeAt h d a)
-  below a l =
-      let q = placeAt h d a in
-      let i = inside-at h d (ranged h d ok) a l in
-      let x : a + h * (d + 1) ≡ indexOf h d (lower q) = omega (arith, index-lower h d q, index-place h d a) in
-      ap (λ (n : ℕ). placeAt h d n) x ∙ place-index h d (sheetsOf d + 1) (lower q) (record { depth = omega (arith, i .depth); row = i .row; column = i .column })
-
-  pub own-below : (n sheet : ℕ) → n ≡ nodesOf h d → sheet ≡ h * (d + 1) → (i : ℕ) → i < n - sheet → getD table (512 + sheet + i) 0 ≡ loweredBy (thresholdsOf h d) (getD table (512 + i) 0)
-  own-below n sheet en es i l =
-      let x : 512 + sheet + i ≡ entry (i + h * (d + 1)) = omega arith in
-      let low : i < nodesOf h d = omega arith in
-      let number = F .planned .number in
-      ap (λ (y : ℕ). getD table y 0) x
-      ∙ number (i + h * (d + 1)) (omega arith)
-      ∙ ap (numberOf h d) (below i low)
-      ∙ sym (number-lowered h d (placeAt h d i) (inside-at h d (ranged h d ok) i low))
-      ∙ sym (lowered-number h d (ranged h d ok) (numberOf h d (placeAt h d i)))
-      ∙ ap (λ (m : ℕ). loweredBy (thresholdsOf h d) m) (sym (number i low))
 
 module _ (T : Table) (S : Suited T) (w : Window) (k : Kept T w) (nodes marks edges : List ℕ) (H : Shows T w (stateOf nodes marks edges)) where
   abbrev h : ℕ

@@ -56,12 +56,11 @@ fn fall_marks(
 )
     requires { ⌜ inRange (shape .height) (shape .distance) ≡ true ⌝ }
     requires { ⌜ z ≡ sizesOf (ofModel (shape .model)) (shape .height) (shape .distance) ⌝ }
-    requires { ⌜ Filled (ofModel (shape .model)) (shape .height) (shape .distance) (now table) ⌝ }
     requires { ⌜ length (now marks) ≡ plane ⌝ }
     ensures { λ _. ⌜ FallsMarks (shape .height) (shape .distance) (now (table .entry)) (now («old_marks» .entry)) (now (marks .exit)) ⌝ }
 {
     let thresholds = sinking::thresholds_of(shape);
-    sinking::sink_marks(z, thresholds, old_marks, marks, table);
+    sinking::sink_marks(z, thresholds, old_marks, marks);
     top_sheet::fresh_marks(z, marks, table);
 }
 

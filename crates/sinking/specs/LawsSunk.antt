@@ -1,22 +1,18 @@
--- Laws of what moves down: what is read of a settled node, that a shape's thresholds lower numbers as the rule does, and marks run by run. Assumes nothing.
-use Prim.Native.Nat.{ℕ, zero, suc, _+_, _-_, _*_, _/_, _%_, _≤_, _<_}
+-- Laws of what moves down: what is read of a settled node, and that a shape's thresholds lower numbers as the rule does. Assumes nothing.
+use Prim.Native.Nat.{ℕ, _+_, _-_, _*_, _/_, _%_, _≤_, _<_}
 use native.Mathlib.Nat.{mul-le-mul}
 use native.Mathlib.Omega.{arith}
-use mathlib.Core.Path.{_≡_, refl, sym, ap, subst, _∙_}
+use mathlib.Core.Path.{_≡_, refl, _∙_}
 use mathlib.Core.Bool.{true, false, _&&_}
-use mathlib.Core.List.{List}
 use mathlib.Core.Logic.{⊎-elim}
 use borrow.Author.Tests.{lt-ltb, le-ltb, le-leb, lt-leb}
-use lib.Bits.{bitOr, bitXor, or-add-and, xor-add-and, and-le-l, and-le-r}
 use lib.Dec.{leb, ltb}
-use lib.ListN.{getD, set}
 use Rattle.shape.specs.Choice.{order}
 use Rattle.shape.specs.Sizes.{maxHeight, sheetsOf, maxSheets, maxDetectors}
 use Rattle.shape.specs.Ranges.{Ranged, sheets-le}
 use Rattle.shape.specs.LawsSizes.{detectors-le}
 use Rattle.window.specs.Round.{loweredNumber}
 use Rattle.flat.specs.Codes.{activeOf, defectOf, unrootedOf, pointerOf}
-use Rattle.flat.specs.Stored.{stored, stored-next}
 use Rattle.sinking.specs.Sunk.{settled, thresholdsOf, Ordered, loweredBy}
 use Rattle.sinking.specs.declared.Thresholds.{Thresholds}
 
@@ -133,57 +129,3 @@ module _ (h d : ℕ) (r : Ranged h d) where
       ⊎-elim (λ e. lowered-inner t o m b e ∙ (let x = lt-ltb m (t .end) e in rw (p, q, x))) (λ e. lowered-past t o m b e ∙ (let x = le-ltb m (t .end) e in rw (p, q, x))) (order m (t .end)))
       (order m (t .detectors)))
       (order m (t .boundary))
-
--- MARKS RUN BY RUN
-
--- no bit so far, and none in which two numbers differ
-pub none-apart : (apart a b : ℕ) → bitOr apart (bitXor a b) ≡ 0 → (apart ≡ 0) × (a ≡ b)
-none-apart apart a b e =
-    let x = bitXor a b in
-    let o = or-add-and apart x in
-    let p = and-le-l apart x in
-    let q = and-le-r apart x in
-    let s = xor-add-and a b in
-    let u = and-le-l a b in
-    let v = and-le-r a b in
-    (omega (arith, o, p, q), omega (arith, o, p, q, s, u, v))
-
-pub apart-next : (old table : List ℕ) (at i apart : ℕ) → (apart ≡ 0 → (j : ℕ) → j < i → getD old (at + j) 0 ≡ getD table (at + j) 0)
-    → bitOr apart (bitXor (getD old (at + i) 0) (getD table (at + i) 0)) ≡ 0 → (j : ℕ) → j < i + 1 → getD old (at + j) 0 ≡ getD table (at + j) 0
-apart-next old table at i apart v e j l =
-    let n = none-apart apart (getD old (at + i) 0) (getD table (at + i) 0) e in
-    ⊎-elim (v (n .0) j) (λ y. let k : i ≡ j = omega arith in subst (λ (x : ℕ). getD old (at + x) 0 ≡ getD table (at + x) 0) k (n .1)) (order j i)
-
--- two rules that agree store the same
-pub stored-same : (b : ℕ) (f g : ℕ → ℕ) (n : ℕ) (l : List ℕ) → ((i : ℕ) → i < n → f i ≡ g i) → stored b f n l ≡ stored b g n l
-unfolding stored
-stored-same b f g zero l q = refl
-stored-same b f g (suc n) l q = let a = stored-same b f g n l (λ i h. q i (omega arith)) in let c = q n (omega arith) in rw (a, c)
-
--- a part stored behind what is stored goes on with it
-pub stored-on : (b : ℕ) (f g : ℕ → ℕ) (i m : ℕ) (l : List ℕ) → ((j : ℕ) → j < m → g j ≡ f (i + j)) → stored (b + i) g m (stored b f i l) ≡ stored b f (i + m) l
-unfolding stored
-stored-on b f g i zero l q = let e : i ≡ i + 0 = omega arith in ap (λ (k : ℕ). stored b f k l) e
-stored-on b f g i (suc m) l q =
-    let e : i + m + 1 ≡ i + suc m = omega arith in
-    let p : b + i + m ≡ b + (i + m) = omega arith in
-    ap (λ (k : ℕ). set (stored (b + i) g m (stored b f i l)) k (g m)) p
-    ∙ stored-next b f l (i + m) (stored (b + i) g m (stored b f i l)) (g m) (stored-on b f g i m l (λ j h. q j (omega arith))) (q m (omega arith))
-    ∙ ap (λ (k : ℕ). stored b f k l) e
-
-module _ (t : Thresholds) (b at : ℕ) (old : List ℕ) where
-  abbrev low : ℕ → ℕ
-  low i = loweredBy t (getD old (at + i) 0)
-
-  -- a turn: a run behind those passed
-  pub run-on : (i n : ℕ) (l now next : List ℕ) → now ≡ stored b low i l → next ≡ stored (b + i) (λ j. loweredBy t (getD old (at + i + j) 0)) n now → next ≡ stored b low (i + n) l
-  run-on i n l now next p q =
-      q
-      ∙ ap (λ (x : List ℕ). stored (b + i) (λ j. loweredBy t (getD old (at + i + j) 0)) n x) p
-      ∙ stored-on b low (λ j. loweredBy t (getD old (at + i + j) 0)) i n l (λ j h. let e : at + i + j ≡ at + (i + j) = omega arith in ap (λ (x : ℕ). loweredBy t (getD old x 0)) e)
-
-  -- marks that are the nodes' own, by the table
-  pub own-run : (table : List ℕ) (to n : ℕ) (l next : List ℕ) → ((i : ℕ) → i < n → getD old (at + i) 0 ≡ getD table (at + i) 0)
-      → ((i : ℕ) → i < n → getD table (to + i) 0 ≡ loweredBy t (getD table (at + i) 0)) → next ≡ stored to (λ i. getD table (to + i) 0) n l → next ≡ stored to low n l
-  own-run table to n l next same below e =
-      e ∙ stored-same to (λ i. getD table (to + i) 0) low n l (λ i h. below i h ∙ ap (λ (m : ℕ). loweredBy t m) (sym (same i h)))

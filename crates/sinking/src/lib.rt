@@ -3,11 +3,10 @@ use flat::MARGIN;
 use flat::PLANE;
 use flat::PLANES;
 use flat::Sizes;
-use flat::TABLE;
 use shape::Shape;
 ghost use mathlib.Core.Path.{_≡_};
 ghost use mathlib.Core.Bool.{true, _&&_};
-ghost use Prim.Native.Nat.{ℕ, _+_, _-_, _≤_, _<_};
+ghost use Prim.Native.Nat.{_+_, _-_, _≤_};
 ghost use lib.ListN.{getD};
 ghost use lib.Dec.{leb, ltb};
 ghost use Rattle.shape.specs.Choice.{if};
@@ -97,94 +96,18 @@ pub fn sink_nodes(z: Sizes, old: &[u8; PLANE], nodes: &mut [u8; PLANE])
     }
 }
 
-// Most marks are their nodes' own numbers, and one sheet lower those are in the table: a run of marks is told and copied at once.
-const RUN: usize = 64;
-
-// Every mark of a run is its node's own number: they differ in no bit.
-fn all_own(at: usize, old: &[u16; PLANE], table: &[u16; TABLE]) -> bool
-    requires { ⌜ at + 64 ≤ 4608 ⌝ }
-    ensures { λ r. ⌜ (r ≡ true → (i : ℕ) → i < 64 → getD (now (old .entry)) (at + i) 0 ≡ getD (now (table .entry)) (at + i) 0) ⌝ }
-{
-    let mut apart: u16 = 0;
-    let mut i: usize = 0;
-    while i < RUN {
-        apart = apart | (old[at + i] ^ table[at + i]);
-        i += 1;
-    }
-    apart == 0
-}
-
-fn copy_own(to: usize, marks: &mut [u16; PLANE], table: &[u16; TABLE])
-    requires { ⌜ to + 64 ≤ 4608 ⌝ }
-    ensures { λ _. ⌜ now (marks .exit) ≡ stored to (λ i. getD (now (table .entry)) (to + i) 0) 64 (now (marks .entry)) ⌝ }
-{
-    let mut i: usize = 0;
-    while i < RUN {
-        marks[to + i] = table[to + i];
-        i += 1;
-    }
-}
-
-fn lower_marks(
-    at: usize,
-    to: usize,
-    n: usize,
-    t: Thresholds,
-    old: &[u16; PLANE],
-    marks: &mut [u16; PLANE],
-)
-    requires { ⌜ (at + n ≤ 4608) × (to + n ≤ 4608) ⌝ }
-    requires { ⌜ Ordered t ⌝ }
-    ensures { λ _. ⌜ now (marks .exit) ≡ stored to (λ i. loweredBy t (getD (now (old .entry)) (at + i) 0)) n (now (marks .entry)) ⌝ }
-{
-    let mut i: usize = 0;
-    while i < n {
-        marks[to + i] = lower(old[at + i], t);
-        i += 1;
-    }
-}
-
-fn sink_run(
-    at: usize,
-    to: usize,
-    t: Thresholds,
-    old: &[u16; PLANE],
-    marks: &mut [u16; PLANE],
-    table: &[u16; TABLE],
-)
-    requires { ⌜ (at + 64 ≤ 4608) × (to + 64 ≤ 4608) ⌝ }
-    requires { ⌜ Ordered t ⌝ }
-    requires { ⌜ ((i : ℕ) → i < 64 → getD (now table) (to + i) 0 ≡ loweredBy t (getD (now table) (at + i) 0)) ⌝ }
-    ensures { λ _. ⌜ now (marks .exit) ≡ stored to (λ i. loweredBy t (getD (now (old .entry)) (at + i) 0)) 64 (now (marks .entry)) ⌝ }
-{
-    if all_own(at, old, table) {
-        copy_own(to, marks, table);
-        return;
-    }
-    lower_marks(at, to, RUN, t, old, marks);
-}
-
-// In the table a node's number, lowered, is that of the node below.
-pub fn sink_marks(
-    z: Sizes,
-    t: Thresholds,
-    old: &[u16; PLANE],
-    marks: &mut [u16; PLANE],
-    table: &[u16; TABLE],
-)
+pub fn sink_marks(z: Sizes, t: Thresholds, old: &[u16; PLANE], marks: &mut [u16; PLANE])
     requires { ⌜ (z .sheet ≤ z .nodes) × (z .nodes ≤ 3600) ⌝ }
     requires { ⌜ Ordered t ⌝ }
-    requires { ⌜ ((i : ℕ) → i < z .nodes - z .sheet → getD (now table) (512 + z .sheet + i) 0 ≡ loweredBy t (getD (now table) (512 + i) 0)) ⌝ }
     ensures { λ _. ⌜ now (marks .exit) ≡ stored (512 + z .sheet) (λ i. loweredBy t (getD (now (old .entry)) (512 + i) 0)) (z .nodes - z .sheet) (now (marks .entry)) ⌝ }
 {
     let down = MARGIN + z.sheet;
     let rest = staying(z);
     let mut i: usize = 0;
-    while i + RUN <= rest {
-        sink_run(MARGIN + i, down + i, t, old, marks, table);
-        i += RUN;
+    while i < rest {
+        marks[down + i] = lower(old[MARGIN + i], t);
+        i += 1;
     }
-    lower_marks(MARGIN + i, down + i, rest - i, t, old, marks);
 }
 
 // The edges of one kind.

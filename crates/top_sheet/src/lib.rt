@@ -68,9 +68,10 @@ pub fn lay_edges(at: usize, n: usize, from: usize, edges: &mut [u8; PLANES], tab
     }
 }
 
-// No byte of a block is set: few are in most rounds.
+// Bytes that are looked at together: in most rounds few are set.
 const BLOCK: usize = 16;
 
+// No byte of a block is set.
 fn none_set(from: usize, bytes: &[u8]) -> bool
     requires { ⌜ from + 16 ≤ length (now bytes) ⌝ }
     ensures { λ r. ⌜ (r ≡ true → (i : ℕ) → i < 16 → getD (now (bytes .entry)) (from + i) 0 ≡ 0) ⌝ }

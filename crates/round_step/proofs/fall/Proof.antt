@@ -12,7 +12,7 @@ fall-nodes-requires : tie.Need-fall-nodes-requires
 fall-nodes-requires c κs = let s = c .before .before in (s .pre .0, (s .pre .1 .0, (s .pre .1 .1 .1 .0, s .pre .1 .1 .1 .1 .0 .of-nodes)))
 
 fall-marks-requires : tie.Need-fall-marks-requires
-fall-marks-requires c κs = let s = c .before .before .before .before in (s .pre .0, (s .pre .1 .0, (s .pre .1 .1 .0, s .pre .1 .1 .1 .1 .0 .of-marks)))
+fall-marks-requires c κs = let s = c .before .before .before .before in (s .pre .0, (s .pre .1 .0, s .pre .1 .1 .1 .1 .0 .of-marks))
 
 sink-kinds-requires : tie.Need-sink-kinds-requires
 sink-kinds-requires c κs =

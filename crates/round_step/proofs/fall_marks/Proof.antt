@@ -1,6 +1,6 @@
 -- `round_step::fall_marks` meets its contract. Assumes nothing.
-use Prim.Native.Nat.{ℕ, _+_, _-_, _<_}
-use mathlib.Core.Path.{_≡_, sym, _∙_, ap, subst}
+use Prim.Native.Nat.{_+_, _-_}
+use mathlib.Core.Path.{sym, _∙_, ap, subst}
 use native.Mathlib.Omega.{arith}
 use borrow.Author.Needs.{needs}
 use lib.ListN.{getD}
@@ -10,7 +10,7 @@ use Rattle.flat.specs.declared.Sizes.{Sizes}
 use Rattle.sinking.specs.Sunk.{Ordered, loweredBy}
 use Rattle.sinking.specs.LawsSunk.{thresholds-ordered}
 use Rattle.sinking.specs.declared.Thresholds.{Thresholds}
-use Rattle.round_step.specs.LawsFalls.{fitting, own-below}
+use Rattle.round_step.specs.LawsFalls.{fitting}
 use Rattle.round_step.proofs.Parts.{falls-marks}
 use Rattle.round_step.proofs.fall_marks.Statement.{statement}
 use Rattle.round_step.proofs.fall_marks.Tie as tie
@@ -26,16 +26,7 @@ sink-marks-requires c κs =
     let most = f .most in
     let n = ap (λ (z : Sizes). z .nodes) (s .pre .1 .0) in
     let m = ap (λ (z : Sizes). z .sheet) (s .pre .1 .0) in
-    let e = sym (c .before .thresholds-of .ensures) in
-    let t = s .args .table .now in
-    let z = s .args .z in
-    let own = own-below _ (s .args .shape .height) (s .args .shape .distance) (s .pre .0) t (s .pre .1 .1 .0) (z .nodes) (z .sheet) n m in (
-      (omega arith, omega arith),
-      (
-        subst Ordered e (thresholds-ordered _ _ (ranged _ _ (s .pre .0))),
-        subst (λ (y : Thresholds). (i : ℕ) → i < z .nodes - z .sheet → getD t (512 + z .sheet + i) 0 ≡ loweredBy y (getD t (512 + i) 0)) e own,
-      ),
-    )
+    ((omega arith, omega arith), subst Ordered (sym (c .before .thresholds-of .ensures)) (thresholds-ordered _ _ (ranged _ _ (s .pre .0))))
 
 fresh-marks-requires : tie.Need-fresh-marks-requires
 fresh-marks-requires c κs =
@@ -46,7 +37,7 @@ returns : tie.Need-returns
 returns c =
     let s = c .before .before .before .before .before in
     let e = s .pre .1 .0 in
-    falls-marks _ _ (s .pre .0) _ _ (ap (λ (z : Sizes). z .nodes) e) (ap (λ (z : Sizes). z .sheet) e) _ _ _ _ _ (s .pre .1 .1 .1)
+    falls-marks _ _ (s .pre .0) _ _ (ap (λ (z : Sizes). z .nodes) e) (ap (λ (z : Sizes). z .sheet) e) _ _ _ _ _ (s .pre .1 .1)
     (c .before .before .sink-marks .ensures
     ∙ ap (λ (t : Thresholds). stored (512 + s .args .z .sheet) (λ i. loweredBy t (getD (s .args .old-marks .now) (512 + i) 0)) (s .args .z .nodes - s .args .z .sheet) (s .args .marks .now)) (c .before .before .before .before .thresholds-of .ensures))
     (c .fresh-marks .ensures)

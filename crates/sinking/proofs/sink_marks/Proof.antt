@@ -1,19 +1,19 @@
 -- `sinking::sink_marks` meets its contract: the entries passed are lowered. Assumes nothing.
-use mathlib.Core.Path.{_≡_, _∙_, ap}
-use Prim.Native.Nat.{ℕ, _≤_, _<_, _-_, _+_}
+use mathlib.Core.Path.{_≡_}
+use Prim.Native.Nat.{_≤_, _-_, _+_}
 use native.Mathlib.Omega.{arith}
+use borrow.Author.Needs.{needs}
 use lib.ListN.{getD}
-use Rattle.flat.specs.Stored.{stored, stored-none}
+use Rattle.flat.specs.Stored.{stored, stored-none, stored-next, stored-done}
 use Rattle.sinking.specs.Sunk.{loweredBy}
-use Rattle.sinking.specs.LawsSunk.{run-on}
 use Rattle.sinking.proofs.sink_marks.Statement.{statement}
 use Rattle.sinking.proofs.sink_marks.Tie as tie
 
 abbrev Inv-loop : tie.InvT-loop
-Inv-loop t old marks₀ table down rest i₀ marks i = (i ≤ rest) × (marks ≡ stored down (λ j. loweredBy t (getD old (512 + j) 0)) i marks₀)
+Inv-loop t old marks₀ down rest i₀ marks i = (i ≤ rest) × (marks ≡ stored down (λ j. loweredBy t (getD old (512 + j) 0)) i marks₀)
 
 abbrev μ-loop : tie.MeasureT-loop
-μ-loop t old marks₀ table down rest i₀ marks i = rest - i
+μ-loop t old marks₀ down rest i₀ marks i = rest - i
 
 add-down : tie.Need-add-down Inv-loop μ-loop
 add-down c = omega arith
@@ -24,27 +24,26 @@ staying-requires c κs = omega arith
 loop-holds : tie.Need-loop-holds Inv-loop μ-loop
 loop-holds c = (omega arith, stored-none _ _ _)
 
-add-loop : tie.Need-add-loop Inv-loop μ-loop
-add-loop c = omega arith
+add-lower : tie.Need-add-lower Inv-loop μ-loop
+add-lower c = omega arith
 
-add-sink-run : tie.Need-add-sink-run Inv-loop μ-loop
-add-sink-run c = omega arith
+mul-lower : tie.Need-mul-lower Inv-loop μ-loop
+mul-lower c = omega arith
 
-add-sink-run-2 : tie.Need-add-sink-run-2 Inv-loop μ-loop
-add-sink-run-2 c = omega arith
+element-copy-out-lower : tie.Need-element-copy-out-lower Inv-loop μ-loop
+element-copy-out-lower c = omega arith
 
-sink-run-requires : tie.Need-sink-run-requires Inv-loop μ-loop
-sink-run-requires c κs =
-    let s = c .before .before .before .before .before in
-    let l = c .before .before .loop in
-    let z = s .args .z in
-    let t = s .args .table .now in
-    let below : (j : ℕ) → j < 64 → getD t (512 + z .sheet + l .i + j) 0 ≡ loweredBy (s .args .t) (getD t (512 + l .i + j) 0)
-    = λ j h.
-    let p : 512 + z .sheet + l .i + j ≡ 512 + z .sheet + (l .i + j) = omega arith in
-    let q : 512 + (l .i + j) ≡ 512 + l .i + j = omega arith in
-    ap (λ (x : ℕ). getD t x 0) p ∙ s .pre .1 .1 (l .i + j) (omega arith) ∙ ap (λ (x : ℕ). loweredBy (s .args .t) (getD t x 0)) q in
-    ((omega arith, omega arith), (s .pre .1 .0, below))
+lower-requires : tie.Need-lower-requires Inv-loop μ-loop
+lower-requires c κs = search needs
+
+add-marks : tie.Need-add-marks Inv-loop μ-loop
+add-marks c = omega arith
+
+mul-marks : tie.Need-mul-marks Inv-loop μ-loop
+mul-marks c = omega arith
+
+element-write-marks : tie.Need-element-write-marks Inv-loop μ-loop
+element-write-marks c = omega arith
 
 add-i : tie.Need-add-i Inv-loop μ-loop
 add-i c = omega arith
@@ -53,32 +52,10 @@ loop-less : tie.Need-loop-less Inv-loop μ-loop
 loop-less c = omega arith
 
 loop-again : tie.Need-loop-again Inv-loop μ-loop
-loop-again c =
-    let s = c .before .before .before .before .before .before in
-    let a = s .args in
-    let l = c .before .before .before .loop in
-    (omega arith, run-on (a .t) (512 + a .z .sheet) 512 (a .old .now) (l .i) 64 (a .marks .now) (l .marks) _ (l .inv .1) (c .sink-run .ensures))
-
-add-lower-marks : tie.Need-add-lower-marks Inv-loop μ-loop
-add-lower-marks c = omega arith
-
-add-lower-marks-2 : tie.Need-add-lower-marks-2 Inv-loop μ-loop
-add-lower-marks-2 c = omega arith
-
-sub-lower-marks : tie.Need-sub-lower-marks Inv-loop μ-loop
-sub-lower-marks c = omega arith
-
-lower-marks-requires : tie.Need-lower-marks-requires Inv-loop μ-loop
-lower-marks-requires c κs = ((omega arith, omega arith), c .before .before .before .before .before .pre .1 .0)
+loop-again c = let l = c .before .before .before .loop in (omega arith, stored-next _ _ _ _ _ _ (l .inv .1) (c .lower .ensures))
 
 returns : tie.Need-returns Inv-loop μ-loop
-returns c =
-    let s = c .before .before .before .before .before .before in
-    let a = s .args in
-    let l = c .before .before .before .loop in
-    let e : l .i + (c .before .before .before .before .staying .result - l .i) ≡ a .z .nodes - a .z .sheet = omega arith in
-    run-on (a .t) (512 + a .z .sheet) 512 (a .old .now) (l .i) (c .before .before .before .before .staying .result - l .i) (a .marks .now) (l .marks) _ (l .inv .1) (c .lower-marks .ensures)
-    ∙ ap (λ (n : ℕ). stored (512 + a .z .sheet) (λ j. loweredBy (a .t) (getD (a .old .now) (512 + j) 0)) n (a .marks .now)) e
+returns c = let l = c .before .loop in stored-done _ _ _ _ _ _ (l .inv .1) (omega arith) (omega arith)
 
 pub sink-marks-spec : {M : Type 1} → statement M
 sink-marks-spec =
@@ -89,15 +66,14 @@ sink-marks-spec =
     add-down
     staying-requires
     loop-holds
-    add-loop
-    add-sink-run
-    add-sink-run-2
-    sink-run-requires
+    add-lower
+    mul-lower
+    element-copy-out-lower
+    lower-requires
+    add-marks
+    mul-marks
+    element-write-marks
     add-i
     loop-less
     loop-again
-    add-lower-marks
-    add-lower-marks-2
-    sub-lower-marks
-    lower-marks-requires
     returns)
