@@ -1,1 +1,2 @@
 // The law joined to what ships. Theorems only, in specs/: Link.antt joins it to the promises of the calls, Account.antt to the streams of a decoding.
+#![tactic(auto)]

@@ -1,4 +1,5 @@
 // The calls on a window: each tests what document 01 says, in its order, and then does what its rule says. What is refused leaves everything as it was.
+#![tactic(auto)]
 ghost use Rattle.std.specs.Prelude.{◌≡◌};
 ghost use Rattle.refusal.specs.Answer.{itself};
 ghost use Rattle.steps.specs.Models.{of_model};
@@ -9,7 +10,7 @@ use refusal::Refusal;
 use window::{Called, Given, Window};
 
 // How a merging step ended: some node was busy, or none was and the stage is rest.
-#[derive(Drop)]
+#[derive(Clone, Copy)]
 pub enum Merged {
     Busy,
     Rest,
@@ -23,7 +24,7 @@ pub struct MergingGiven {
 }
 
 // How a run ended: at rest, or with its budget spent; with the count of steps made.
-#[derive(Drop)]
+#[derive(Clone, Copy)]
 pub enum Outcome {
     Rest(u32),
     Spent(u32),

@@ -1,4 +1,6 @@
 // S-6, creation: whether the caller's largest height and distance allow a shape. The shape's own tests come first.
+#![tactic(auto)]
+
 ghost use Rattle.std.specs.Prelude.{◌≡◌};
 ghost use Rattle.refusal.specs.Answer.{status};
 ghost use Rattle.shape.specs.Sizes.{shape_answer};

@@ -1,9 +1,10 @@
 // What a decoding answers. Its rule stands in specs/Decoding.antt, with the theorems on it beside.
+#![tactic(auto)]
 use refusal::Refusal;
 use window::Window;
 
 // How a decoding ended: at the stream's end, with a round that is spent, or with a refusal.
-#[derive(Drop)]
+#[derive(Clone, Copy)]
 pub enum Ending {
     Finished,
     Spent,
@@ -11,7 +12,7 @@ pub enum Ending {
 }
 
 // A record: the offsets behind the round that was read and behind what was written; or how the decoding ended.
-#[derive(Drop)]
+#[derive(Clone, Copy)]
 pub enum Record {
     Written(usize, usize),
     Stopped(Ending),
@@ -27,7 +28,7 @@ pub struct RoundsGiven {
 }
 
 // How a whole stream's decoding ended, and the bytes written.
-#[derive(Drop)]
+#[derive(Clone, Copy)]
 pub struct DecodeGiven {
     pub ending: Ending,
     pub count: usize,

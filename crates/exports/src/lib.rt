@@ -7,6 +7,7 @@
 // every buffer, value and lent offset as it was. `place` takes the offset behind the record, or that of the number's first byte with 7, 8 and 9,
 // and is left alone otherwise. `baizeridge_decode` alone keeps what it finished: however it ends, `count` takes the length of what was written
 // at the front of `out`, the header if it was read and the finished rounds, and the bytes behind stay.
+#![tactic(auto)]
 ghost use Rattle.std.specs.Prelude.{◌≡◌};
 ghost use Rattle.reply.specs.Reply.{reply, value_out, header_out, scan_out};
 ghost use Rattle.exports.specs.Calls.{number_read, buffer_out, number_written, list_read, list_written, taken, header_read, header_taken, header_written, round_out, round_read, round_taken, round_written, result_out, result_read, result_taken, result_written, input_scanned, results_scanned, decode_out, stream_decoded};

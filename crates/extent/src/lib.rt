@@ -1,4 +1,6 @@
 // The extent of a shape: its sizes, and where its nodes stand and what their numbers are, computed.
+#![tactic(auto)]
+
 ghost use Rattle.std.specs.Prelude.{◌≡◌, ◌-◌, ◌^◌, ◌≤◌};
 ghost use Rattle.shape.specs.Sizes.{height_ok, distance_ok, model_ok, in_range, shape_of, shape_fine, shape_answer, tested_answer, sheets_of, boundary, detectors_of, plain_edges, diagonal_edges, layer_edges_of, nodes_in, nodes_of};
 ghost use Rattle.shape.specs.Nodes.{side as side_of, number_of, index_of};

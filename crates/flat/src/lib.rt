@@ -1,4 +1,5 @@
 // The flat machine's arrays: what their numbers mean, and how they are read.
+#![tactic(auto)]
 ghost use Rattle.std.specs.Prelude.{◌≡◌, ◌+◌, ◌-◌, ◌≤◌, ◌<◌, eqb};
 ghost use Rattle.flat.specs.Codes.{node_code, active_of, defect_of, unrooted_of, pointer_of, edge_code, growth_of, correction_of};
 ghost use Rattle.flat.specs.Entries.{over_by};
@@ -46,7 +47,7 @@ pub const RESET: u16 = 65535;
 pub const NO_EDGE: u8 = 3;
 
 // The sizes of a shape: directions and kinds of its table of steps, nodes of the window and of a sheet, and the lowest number of a detector.
-#[derive(Drop)]
+#[derive(Clone, Copy)]
 pub struct Sizes {
     pub dirs: usize,
     pub kinds: usize,
@@ -56,7 +57,7 @@ pub struct Sizes {
 }
 
 // What flooding leaves of a node.
-#[derive(Drop)]
+#[derive(Clone, Copy)]
 pub struct Flood {
     pub mark: u16,
     pub pointer: u8,

@@ -1,4 +1,6 @@
 // Whether there is an edge from a place along a step.
+#![tactic(auto)]
+
 ghost use Rattle.std.specs.Prelude.{◌≡◌};
 ghost use Rattle.steps.specs.Models.{of_model};
 ghost use Rattle.steps.specs.Steps.{step as step_in, goes as goes_to, fits as fits_in, still as still_in, along_row, one_apart, beside as beside_in, inside_of, both_detectors, joined as joined_by};

@@ -1,1 +1,2 @@
 // The law holds: theorems in specs/, no code.
+#![tactic(auto)]

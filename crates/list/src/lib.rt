@@ -1,5 +1,7 @@
 // Sheet lists: one byte an entry, 0 or 1, in a buffer; in a stream the count of set entries and the entries skipped before each.
 // Here is their reader.
+#![tactic(auto)]
+
 ghost use Rattle.std.specs.Prelude.{◌≡◌, length, replicate};
 ghost use Rattle.refusal.specs.Answer.{without_value};
 ghost use Rattle.number.specs.Number.{number_answer};
@@ -9,7 +11,7 @@ use number::Read;
 use refusal::Refusal;
 
 // What reading a list finds: the offset behind it, or why it is refused.
-#[derive(Drop)]
+#[derive(Clone, Copy)]
 pub enum Listed {
     To(usize),
     Refused(Refusal),

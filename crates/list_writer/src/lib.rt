@@ -1,5 +1,6 @@
 // The writer of sheet lists, from a buffer of one byte an entry. A list is measured once and then written; one that is all 0 is told by the
 // bits of all entries together, a pass that becomes vector code, and is looked at no further.
+#![tactic(auto)]
 ghost use Rattle.std.specs.Prelude.{◌≡◌, true, ◌+◌, ◌≤◌, ◌<◌, min, length};
 ghost use Rattle.refusal.specs.Writing.{front, put_to};
 ghost use Rattle.number.specs.Number.{written_buffered};
@@ -10,7 +11,7 @@ use number::Wrote;
 use refusal::Refusal;
 
 // What a list comes to: the bits of all entries together, how many are set, and how many bytes it has in a stream.
-#[derive(Drop)]
+#[derive(Clone, Copy)]
 pub struct Measure {
     pub bits: u8,
     pub ones: u64,

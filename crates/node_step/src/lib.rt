@@ -1,4 +1,5 @@
 // What one merging step makes of a node, in a word: syncing and flooding together.
+#![tactic(auto)]
 ghost use Rattle.std.specs.Prelude.{◌≡◌, ◌+◌, ◌≤◌, ◌<◌};
 ghost use Rattle.flat.specs.Entries.{state_of};
 ghost use Rattle.flat.specs.Plan.{plan_of, Safe};
@@ -9,7 +10,7 @@ ghost use Rattle.node_step.specs.After.{Joined, Tells};
 use flat::{Flood, PLANE, PLANES, RESET, Sizes, TABLE};
 
 // The word that holds what becomes of a node, and whether the node is busy.
-#[derive(Drop)]
+#[derive(Clone, Copy)]
 pub struct After {
     pub word: u32,
     pub busy: bool,

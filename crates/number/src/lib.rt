@@ -1,4 +1,6 @@
 // Numbers in groups of seven bits: a reader on a slice and an offset, and a writer into a lent buffer from an offset.
+#![tactic(auto)]
+
 ghost use Rattle.std.specs.Prelude.{◌≡◌, ◌≤◌, ◌<◌, length};
 ghost use Rattle.refusal.specs.Writing.{front, put_to};
 ghost use Rattle.number.specs.Number.{number_answer, written_buffered, number_at, last_group, written as written_of, write_number};
@@ -6,14 +8,14 @@ ghost use Rattle.number.specs.Number.{number_answer, written_buffered, number_at
 use refusal::Refusal;
 
 // What reading a number finds: its value and the offset behind it, or why it is refused.
-#[derive(Drop)]
+#[derive(Clone, Copy)]
 pub enum Read {
     Number(u32, usize),
     Refused(Refusal),
 }
 
 // What a writer answers: the offset behind the record, or why nothing was written.
-#[derive(Drop)]
+#[derive(Clone, Copy)]
 pub enum Wrote {
     To(usize),
     Not(Refusal),

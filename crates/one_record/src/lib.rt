@@ -1,4 +1,5 @@
 // One record of the decoding, on the machine's arrays: the round that is received next, run, and its record written.
+#![tactic(auto)]
 ghost use Rattle.std.specs.Prelude.{◌≡◌, ◌≤◌, length};
 ghost use Rattle.shape.specs.Sizes.{IsShape};
 ghost use Rattle.steps.specs.Models.{of_model};
@@ -20,7 +21,7 @@ use shape::{MAX_DETECTORS, Shape};
 use turn::Held;
 
 // The record, and what the other set holds if it was written (else without meaning).
-#[derive(Drop)]
+#[derive(Clone, Copy)]
 pub struct RecordGiven {
     pub answer: Record,
     pub held: Held,

@@ -1,4 +1,5 @@
 // The machine's table of a shape: directions, kinds, the nodes' numbers, a fresh sheet's edges and the bottom layer's, all by the table of steps.
+#![tactic(auto)]
 ghost use Rattle.std.specs.Prelude.{◌≡◌, true, ◌&&◌, ◌+◌, ◌-◌, ◌*◌, ◌≤◌, ◌<◌, replicate};
 ghost use Rattle.shape.specs.Choice.{if};
 ghost use Rattle.shape.specs.Sizes.{in_range, sheets_of};
@@ -16,7 +17,7 @@ use shape::{MAX_SHEET_NODES, Place, Shape};
 use steps::{Shift, Step};
 
 // The rectangle of rows and columns from which a step goes along an edge.
-#[derive(Drop)]
+#[derive(Clone, Copy)]
 pub struct Area {
     top: usize,
     bottom: usize,

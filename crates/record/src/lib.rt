@@ -1,6 +1,7 @@
 // The records of the input and of the result stream: a header, then one record a round. Readers on a slice and an offset, writers into a
 // lent buffer from an offset. Whatever is refused leaves offset and buffers as they were. Here are the answers of all readers, the tests
 // that calls on records begin with, and the header.
+#![tactic(auto)]
 ghost use Rattle.std.specs.Prelude.{◌≡◌};
 ghost use Rattle.refusal.specs.Answer.{unless, done};
 ghost use Rattle.refusal.specs.Writing.{front, put_to};
@@ -14,14 +15,14 @@ use refusal::Refusal;
 use shape::{Shape, Tested};
 
 // What reading a header finds: the shape and the offset behind it, or why it is refused.
-#[derive(Drop)]
+#[derive(Clone, Copy)]
 pub enum HeaderRead {
     Shape(Shape, usize),
     Refused(Refusal),
 }
 
 // What reading a round of the input finds: the offset behind it, no bytes left, or why it is refused.
-#[derive(Drop)]
+#[derive(Clone, Copy)]
 pub enum RoundRead {
     To(usize),
     End,
@@ -29,7 +30,7 @@ pub enum RoundRead {
 }
 
 // What reading a round of the result finds: its merging steps and the offset behind it, no bytes left, or why it is refused.
-#[derive(Drop)]
+#[derive(Clone, Copy)]
 pub enum ResultRead {
     Steps(u32, usize),
     End,

@@ -1,8 +1,9 @@
 // Why a call is turned back: the numbered refusals of documents 01 and 02, by name.
+#![tactic(auto)]
 ghost use Rattle.std.specs.Prelude.{◌≡◌};
 ghost use Rattle.refusal.specs.Answer.{status, place_or, turned};
 
-#[derive(Drop)]
+#[derive(Clone, Copy)]
 pub enum Refusal {
     // The height is not 1 to 15.
     Height,

@@ -1,4 +1,5 @@
 // The writer of a round of the result stream. Each list is measured once, the room is tested once, and then all is written.
+#![tactic(auto)]
 ghost use Rattle.std.specs.Prelude.{◌≡◌, true, [], ◌≤◌, length, replicate};
 ghost use Rattle.refusal.specs.Writing.{front, put_to, writing};
 ghost use Rattle.number.specs.Number.{written_buffered};

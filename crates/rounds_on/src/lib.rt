@@ -1,4 +1,5 @@
 // Round after round on the machine's arrays: each record is made from one set into the other.
+#![tactic(auto)]
 ghost use Rattle.shape.specs.Choice.{if};
 ghost use Rattle.decoding.specs.Answers.{line_of};
 ghost use Rattle.flat.specs.Entries.{state_of};
@@ -12,7 +13,7 @@ use shape::Shape;
 use turn::Held;
 
 // How the rounds ended, the window's next round, the offsets reached, and whether the window stands in the other set.
-#[derive(Drop)]
+#[derive(Clone, Copy)]
 pub struct Rounds {
     pub ending: Ending,
     pub next: u32,

@@ -1,4 +1,5 @@
 // Merging steps on the machine's arrays, up to rest or through a budget.
+#![tactic(auto)]
 ghost use Rattle.std.specs.Prelude.{◌≡◌, length};
 ghost use Rattle.flat.specs.Entries.{state_of, Long};
 ghost use Rattle.flat.specs.Plan.{plan_of, Safe};
@@ -10,7 +11,7 @@ ghost use Rattle.run_steps.specs.Going.{Shown, Stopped, Finished};
 use flat::{LISTS, PLANE, PLANES, Sizes, TABLE};
 
 // Where a run stopped: at rest or not, the steps made, and the work list that it stands at.
-#[derive(Drop)]
+#[derive(Clone, Copy)]
 pub struct Stop {
     rest: bool,
     count: u32,
@@ -19,7 +20,7 @@ pub struct Stop {
 }
 
 // How a run ended: at rest or not, and the steps made.
-#[derive(Drop)]
+#[derive(Clone, Copy)]
 pub struct Reached {
     pub rest: bool,
     pub count: u32,

@@ -1,4 +1,5 @@
 // The steps by which a whole stream is read: behind the header, one round of a kind, whether to go on.
+#![tactic(auto)]
 ghost use Rattle.std.specs.Prelude.{◌≡◌, true, ◌-◌, ◌≤◌, length};
 ghost use Rattle.shape.specs.Sizes.{IsShape};
 ghost use Rattle.refusal.specs.Answer.{without_value};
@@ -12,21 +13,21 @@ use refusal::Refusal;
 use shape::{MAX_DETECTORS, MAX_LAYER_EDGES, Shape};
 
 // What reading a whole stream finds: its shape and how many rounds it has, or why it is refused.
-#[derive(Drop)]
+#[derive(Clone, Copy)]
 pub enum StreamRead {
     Rounds(Shape, usize),
     Refused(Refusal),
 }
 
 // What has been read of a stream, and the offset behind it.
-#[derive(Drop)]
+#[derive(Clone, Copy)]
 pub struct ReadTo {
     pub read: StreamRead,
     pub at: usize,
 }
 
 // The two kinds of round.
-#[derive(Drop)]
+#[derive(Clone, Copy)]
 pub enum Round {
     Input,
     Result,

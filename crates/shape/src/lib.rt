@@ -1,4 +1,6 @@
 // What a shape is, and the largest one. Its sizes, and the numbers and the internal order of its nodes, stand in specs/.
+#![tactic(auto)]
+
 use refusal::Refusal;
 
 // The largest height and distance. The arrays of a window and the buffers of a round are made for a shape of both.
@@ -23,27 +25,27 @@ pub const MAX_LAYER_EDGES: usize = MAX_HEIGHT * MAX_DISTANCE
     + (MAX_HEIGHT - 1) * (MAX_DISTANCE - 2);
 
 // The noise model is 0, or 1 for circuit-level noise with its diagonals.
-#[derive(Drop)]
+#[derive(Clone, Copy)]
 pub struct Shape {
     pub height: u8,
     pub distance: u8,
     pub model: u8,
 }
 
-#[derive(Drop)]
+#[derive(Clone, Copy)]
 pub enum Shaped {
     Shape(Shape),
     Refused(Refusal),
 }
 
-#[derive(Drop)]
+#[derive(Clone, Copy)]
 pub enum Tested {
     Fine,
     Refused(Refusal),
 }
 
 // A node's place: depth 0 is the top sheet, columns 0 and the distance are boundary.
-#[derive(Drop)]
+#[derive(Clone, Copy)]
 pub struct Place {
     pub depth: u8,
     pub row: u8,

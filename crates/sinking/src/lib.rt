@@ -1,4 +1,5 @@
 // A round on the flat machine's arrays: one set moves into the other, one sheet lower.
+#![tactic(auto)]
 ghost use Rattle.std.specs.Prelude.{◌≡◌, ◌+◌, ◌-◌, ◌≤◌, true, ◌&&◌, nat_le, nat_lt, slice_index};
 ghost use Rattle.shape.specs.Choice.{if};
 ghost use Rattle.shape.specs.Sizes.{in_range};
@@ -10,7 +11,7 @@ use shape::Shape;
 
 // Numbers below `boundary` are boundary nodes' of the window's sheets, and one sheet lower they are `sides` more; those from `detectors` on
 // and below `end` are its detectors', and become `inner` more. All others stay.
-#[derive(Drop)]
+#[derive(Clone, Copy)]
 pub struct Thresholds {
     pub boundary: u16,
     pub detectors: u16,

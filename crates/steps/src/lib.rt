@@ -1,17 +1,19 @@
 // The tables of steps between nodes, by the noise model: for each pointer where it leads, the pointer back, and the edge that it goes along.
+#![tactic(auto)]
+
 ghost use Rattle.std.specs.Prelude.{◌≡◌, length};
 ghost use Rattle.steps.specs.Steps.{step as step_in, falls as falls_in, namer as namer_in};
 ghost use Rattle.steps.specs.Models.{circuit, of_model};
 
 // A coordinate's part of a step: a goes to a + more - less.
-#[derive(Drop)]
+#[derive(Clone, Copy)]
 pub struct Shift {
     pub less: u8,
     pub more: u8,
 }
 
 // A step of the scan order: its shifts, the pointer of the step back, the kind of its edge, and whether the node that it leaves names the edge.
-#[derive(Drop)]
+#[derive(Clone, Copy)]
 pub struct Step {
     pub row: Shift,
     pub column: Shift,

@@ -1,4 +1,5 @@
 // A round of the stream on the machine's arrays: received from one set into the other, and run.
+#![tactic(auto)]
 ghost use Rattle.std.specs.Prelude.{◌≡◌, ◌<◌, length};
 ghost use Rattle.shape.specs.Sizes.{detectors_of};
 ghost use Rattle.window.specs.Window.{max_next};
@@ -16,7 +17,7 @@ pub const BUDGET: u32 = 65536;
 
 // What the arrays hold of a window besides its nodes and edges: its next round, whether its pointers ride on open edges, and whether it was run to
 // rest, so that a merging step would change no node.
-#[derive(Drop)]
+#[derive(Clone, Copy)]
 pub struct Held {
     pub next: u32,
     pub rides: bool,

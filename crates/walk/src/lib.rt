@@ -1,4 +1,6 @@
 // The nodes one after another.
+#![tactic(auto)]
+
 ghost use Rattle.std.specs.Prelude.{◌≡◌, ◌<◌};
 ghost use Rattle.shape.specs.Nodes.{number_of};
 ghost use Rattle.walk.specs.Walk.{place_after, Stands};

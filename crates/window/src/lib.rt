@@ -1,4 +1,5 @@
 // What a window holds. The rules of its calls stand in specs/.
+#![tactic(auto)]
 ghost use Rattle.std.specs.Prelude.{◌≡◌};
 ghost use Rattle.shape.specs.Sizes.{sheets_of};
 ghost use Rattle.window.specs.Lists.{bit as bit_of};
@@ -14,14 +15,14 @@ pub const MAX_SLOTS: usize = 6 * MAX_NODES;
 pub const MAX_NEXT: u32 = 4294967295;
 
 // A node's cluster mark: reset, or the number of a root.
-#[derive(Drop)]
+#[derive(Clone, Copy)]
 pub enum Mark {
     Reset,
     Root(u16),
 }
 
 // Pointers are 0 for C, and the places in the scan order of the window's model, from 1.
-#[derive(Drop)]
+#[derive(Clone, Copy)]
 pub struct Node {
     pub active: bool,
     pub defect: bool,
@@ -30,7 +31,7 @@ pub struct Node {
     pub mark: Mark,
 }
 
-#[derive(Drop)]
+#[derive(Clone, Copy)]
 pub enum Stage {
     Rest,
     ToGrow,
@@ -51,7 +52,7 @@ pub struct Window {
 }
 
 // What a step leads to: whether there is an edge, its slot, and the node at its other end.
-#[derive(Drop)]
+#[derive(Clone, Copy)]
 pub struct Way {
     pub there: bool,
     pub node: usize,
@@ -60,7 +61,7 @@ pub struct Way {
 }
 
 // What a node sees in one direction.
-#[derive(Drop)]
+#[derive(Clone, Copy)]
 pub struct Seen {
     pub there: bool,
     pub grown: bool,
@@ -70,7 +71,7 @@ pub struct Seen {
 }
 
 // What flooding leaves of a node.
-#[derive(Drop)]
+#[derive(Clone, Copy)]
 pub struct Flooded {
     pub unrooted: bool,
     pub pointer: u8,
@@ -79,7 +80,7 @@ pub struct Flooded {
 }
 
 // A node after a merging step.
-#[derive(Drop)]
+#[derive(Clone, Copy)]
 pub struct Stepped {
     pub node: Node,
     pub busy: bool,
@@ -94,7 +95,7 @@ pub struct Ran {
 }
 
 // How a call ended.
-#[derive(Drop)]
+#[derive(Clone, Copy)]
 pub enum Called {
     Done,
     Refused(Refusal),

@@ -1,4 +1,5 @@
 // The first work list of a turn.
+#![tactic(auto)]
 ghost use Rattle.std.specs.Prelude.{◌≡◌, true, ℕ, get_or};
 ghost use Rattle.flat.specs.Codes.{growth_of};
 ghost use Rattle.flat.specs.Entries.{within};
