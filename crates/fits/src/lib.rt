@@ -1,5 +1,6 @@
 // Whether one node and its slots are well-formed.
 #![tactic(auto)]
+
 ghost use Rattle.std.specs.Prelude.{◌≡◌, ◌+◌, ◌*◌, ◌≤◌, ◌<◌, length};
 ghost use Rattle.shape.specs.Sizes.{sheets_of, nodes_in, max_nodes};
 ghost use Rattle.steps.specs.Steps.{namer};

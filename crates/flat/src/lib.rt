@@ -1,5 +1,6 @@
 // The flat machine's arrays: what their numbers mean, and how they are read.
 #![tactic(auto)]
+
 ghost use Rattle.std.specs.Prelude.{◌≡◌, ◌+◌, ◌-◌, ◌≤◌, ◌<◌, eqb};
 ghost use Rattle.flat.specs.Codes.{node_code, active_of, defect_of, unrooted_of, pointer_of, edge_code, growth_of, correction_of};
 ghost use Rattle.flat.specs.Entries.{over_by};

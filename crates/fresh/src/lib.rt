@@ -1,5 +1,6 @@
 // The fresh window of a shape.
 #![tactic(auto)]
+
 ghost use Rattle.std.specs.Prelude.{◌≡◌, true};
 ghost use Rattle.shape.specs.Sizes.{in_range};
 ghost use Rattle.steps.specs.Models.{of_model};

@@ -1,5 +1,6 @@
 // A round of the input stream: its reader and its writer.
 #![tactic(auto)]
+
 ghost use Rattle.std.specs.Prelude.{◌≡◌};
 ghost use Rattle.refusal.specs.Writing.{buffered};
 ghost use Rattle.number.specs.Number.{written_buffered};

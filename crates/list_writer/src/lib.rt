@@ -1,6 +1,7 @@
 // The writer of sheet lists, from a buffer of one byte an entry. A list is measured once and then written; one that is all 0 is told by the
 // bits of all entries together, a pass that becomes vector code, and is looked at no further.
 #![tactic(auto)]
+
 ghost use Rattle.std.specs.Prelude.{◌≡◌, true, ◌+◌, ◌≤◌, ◌<◌, min, length};
 ghost use Rattle.refusal.specs.Writing.{front, put_to};
 ghost use Rattle.number.specs.Number.{written_buffered};

@@ -1,5 +1,6 @@
 // The shape that a height, a distance and a model from C name, and its sizes.
 #![tactic(auto)]
+
 ghost use Rattle.std.specs.Prelude.{◌≡◌};
 ghost use Rattle.refusal.specs.Answer.{value_or, itself};
 ghost use Rattle.shape.specs.Sizes.{shape_by, shape_of};

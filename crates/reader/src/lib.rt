@@ -2,6 +2,7 @@
 // hands back the reader behind what was read, or as it was. The borrow checker covers no function over a struct with a reference, so these
 // are thin, and proved by hand. What carries a reader and has plain parameters stands in crate stream.
 #![tactic(auto)]
+
 ghost use Rattle.std.specs.Prelude.{◌≡◌, ◌-◌, length};
 ghost use Rattle.refusal.specs.Answer.{next_or};
 ghost use Rattle.refusal.specs.Writing.{buffered};

@@ -2,6 +2,7 @@
 // lent buffer from an offset. Whatever is refused leaves offset and buffers as they were. Here are the answers of all readers, the tests
 // that calls on records begin with, and the header.
 #![tactic(auto)]
+
 ghost use Rattle.std.specs.Prelude.{◌≡◌};
 ghost use Rattle.refusal.specs.Answer.{unless, done};
 ghost use Rattle.refusal.specs.Writing.{front, put_to};

@@ -1,5 +1,6 @@
 // The reader of a round of the result stream.
 #![tactic(auto)]
+
 ghost use Rattle.std.specs.Prelude.{◌≡◌, true, length};
 ghost use Rattle.refusal.specs.Answer.{is_done, value_or};
 ghost use Rattle.record.specs.Records.{result_from, result_edges, result_escapes};

@@ -1,12 +1,13 @@
 // The writer of a round of the result stream. Each list is measured once, the room is tested once, and then all is written.
 #![tactic(auto)]
+
 ghost use Rattle.std.specs.Prelude.{◌≡◌, true, [], ◌≤◌, length, replicate};
 ghost use Rattle.refusal.specs.Writing.{front, put_to, writing};
 ghost use Rattle.number.specs.Number.{written_buffered};
 ghost use Rattle.list.specs.Sheet.{are_bits};
 ghost use Rattle.list_writer.specs.Gaps.{Measured};
 ghost use Rattle.shape.specs.Sizes.{IsShape, detectors_of, layer_edges_of};
-ghost use Rattle.record.specs.Records.{result};
+ghost use Rattle.record.specs.Records.{result as result_of};
 ghost use Rattle.record.specs.Calls.{write_result, as_result};
 
 use list_writer::Measure;
@@ -26,7 +27,7 @@ fn put_result(
 ) -> usize
     requires measured { Measured edges.now first.bits first.ones first.len }
     requires measured_2 { Measured escapes.now second.bits second.ones second.len }
-    ensures* { λ r. ⌜ put_to r out.new ≡ front out.old (result (as_result edges.now escapes.now steps)) ⌝ }
+    ensures { put_to result out.new ≡ front out.old (result_of (as_result edges.now escapes.now steps)) }
 {
     let room = out.len();
     if room < first.len {
@@ -56,7 +57,7 @@ fn put_from(
     requires measured { Measured edges.now first.bits first.ones first.len }
     requires measured_2 { Measured escapes.now second.bits second.ones second.len }
     requires at_in_bounds { at ≤ length out.old }
-    ensures* { λ r. ⌜ written_buffered r out.new ≡ writing [] out.old at (result (as_result edges.now escapes.now steps)) ⌝ }
+    ensures { written_buffered result out.new ≡ writing [] out.old at (result_of (as_result edges.now escapes.now steps)) }
 {
     let count = put_result(edges, first, escapes, second, steps, &mut out[at..]);
     if count == 0 {
@@ -80,7 +81,7 @@ pub fn put_round(
     requires edges_value { are_bits edges.now ≡ true }
     requires escapes_value { are_bits escapes.now ≡ true }
     requires at_in_bounds { at ≤ length out.old }
-    ensures* { λ r. ⌜ written_buffered r out.new ≡ write_result shape (as_result edges.now escapes.now steps) out.old at ⌝ }
+    ensures { written_buffered result out.new ≡ write_result shape (as_result edges.now escapes.now steps) out.old at }
 {
     let first = list_writer::measured(edges);
     let second = list_writer::measured(escapes);
@@ -92,7 +93,7 @@ pub fn put_round(
 pub fn write_quiet(shape: Shape, steps: u32, out: &mut [u8], at: usize) -> Wrote
     requires shape { IsShape shape }
     requires at_in_bounds { at ≤ length out.old }
-    ensures* { λ r. ⌜ written_buffered r out.new ≡ write_result shape (as_result (replicate (layer_edges_of shape.model shape.height shape.distance) 0) (replicate (detectors_of shape.height shape.distance) 0) steps) out.old at ⌝ }
+    ensures { written_buffered result out.new ≡ write_result shape (as_result (replicate (layer_edges_of shape.model shape.height shape.distance) 0) (replicate (detectors_of shape.height shape.distance) 0) steps) out.old at }
 {
     let none: [u8; 0] = [];
     let first = Measure {
@@ -112,7 +113,7 @@ pub fn write_result(
     out: &mut [u8],
     at: usize,
 ) -> Wrote
-    ensures* { λ r. ⌜ written_buffered r out.new ≡ write_result shape (as_result edges.now escapes.now steps) out.old at ⌝ }
+    ensures { written_buffered result out.new ≡ write_result shape (as_result edges.now escapes.now steps) out.old at }
 {
     let tested = record::test_place(shape, out.len(), at);
     if let Tested::Refused(f) = tested {

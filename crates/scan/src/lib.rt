@@ -1,5 +1,6 @@
 // The steps by which a whole stream is read: behind the header, one round of a kind, whether to go on.
 #![tactic(auto)]
+
 ghost use Rattle.std.specs.Prelude.{◌≡◌, true, ◌-◌, ◌≤◌, length};
 ghost use Rattle.shape.specs.Sizes.{IsShape};
 ghost use Rattle.refusal.specs.Answer.{without_value};

@@ -1,5 +1,6 @@
 // A round on the flat machine's arrays: one set moves into the other, one sheet lower.
 #![tactic(auto)]
+
 ghost use Rattle.std.specs.Prelude.{◌≡◌, ◌+◌, ◌-◌, ◌≤◌, true, ◌&&◌, nat_le, nat_lt, slice_index};
 ghost use Rattle.shape.specs.Choice.{if};
 ghost use Rattle.shape.specs.Sizes.{in_range};

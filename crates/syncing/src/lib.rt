@@ -1,5 +1,6 @@
 // Syncing: whether a node is active after a merging step, and bears a defect. It reads its neighbours as they were when the step began.
 #![tactic(auto)]
+
 ghost use Rattle.std.specs.Prelude.{◌≡◌, false, ◌&&◌, not, [], ◌+◌, ◌≤◌, ◌<◌, eqb, get_or};
 ghost use Rattle.flat.specs.Codes.{defect_of, pointer_of, growth_of};
 ghost use Rattle.flat.specs.Entries.{state_of, by_nodes};

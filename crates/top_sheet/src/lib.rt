@@ -1,5 +1,6 @@
 // The new top sheet on the flat machine's arrays: its nodes, its edges and its defects.
 #![tactic(auto)]
+
 ghost use Rattle.std.specs.Prelude.{◌≡◌, true, ℕ, ◌+◌, ◌*◌, ◌%◌, ◌≤◌, ◌<◌, length, get_or};
 ghost use Rattle.shape.specs.Sizes.{in_range, detectors_of};
 ghost use Rattle.flat.specs.Entries.{plane};

@@ -1,5 +1,6 @@
 // Whether the entries behind a window's own are unused.
 #![tactic(auto)]
+
 ghost use Rattle.std.specs.Prelude.{◌≡◌, not, ◌≤◌, drop};
 ghost use Rattle.shape.specs.Sizes.{max_nodes};
 ghost use Rattle.window.specs.Lists.{all};

@@ -1,5 +1,6 @@
 // What a window holds. The rules of its calls stand in specs/.
 #![tactic(auto)]
+
 ghost use Rattle.std.specs.Prelude.{◌≡◌};
 ghost use Rattle.shape.specs.Sizes.{sheets_of};
 ghost use Rattle.window.specs.Lists.{bit as bit_of};
