@@ -1,5 +1,6 @@
 // Flooding: the mark and the pointer that a merging step gives a node. It reads its neighbours as they were when the step began.
 #![tactic(auto)]
+
 ghost use Rattle.std.specs.Prelude.{◌≡◌, ◌+◌, ◌≤◌, ◌<◌, get_or};
 ghost use Rattle.flat.specs.Codes.{growth_of};
 ghost use Rattle.flat.specs.Entries.{state_of};

@@ -1,5 +1,6 @@
 // What leaves with a round, on the flat machine's arrays: the bottom layer's correction bits and the bottom sheet's defects.
 #![tactic(auto)]
+
 ghost use Rattle.std.specs.Prelude.{◌≡◌, true, false, not, ℕ, ◌+◌, ◌-◌, ◌≤◌, ◌<◌, length, get_or};
 ghost use Rattle.shape.specs.Sizes.{in_range, detectors_of};
 ghost use Rattle.window.specs.Lists.{any, bit};

@@ -1,5 +1,6 @@
 // The list of nodes that a merging step has to look at: each once, by a flag for each node.
 #![tactic(auto)]
+
 ghost use Rattle.std.specs.Prelude.{ℕ, ◌+◌, ◌≤◌, ◌<◌, get_or};
 ghost use Rattle.flat.specs.Codes.{growth_of};
 ghost use Rattle.flat.specs.Plan.{plan_of, Safe};

@@ -1,5 +1,6 @@
 // Why a call is turned back: the numbered refusals of documents 01 and 02, by name.
 #![tactic(auto)]
+
 ghost use Rattle.std.specs.Prelude.{◌≡◌};
 ghost use Rattle.refusal.specs.Answer.{status, place_or, turned};
 

@@ -9,8 +9,8 @@ overflow_sub-t c = omega (arith, c.requires.some)
 
 pub returns-then-wrapping_sub_u16-t : goal.returns-then-wrapping_sub_u16-t
 returns-then-wrapping_sub_u16-t c =
-    sym (if-true _ _ _ (range-in c.args.t c.requires c.args.m _ (omega arith) c.wrapping_sub_u16.ensures c.if-wrapping_sub_u16-t.true))
+    sym (if-true _ _ _ (range-in c.args.t c.requires c.args.m _ (omega arith) c.wrapping_sub_u16.ensures.value c.if-wrapping_sub_u16-t.true))
 
 pub returns : goal.returns
 returns c =
-    sym (if-false _ _ _ (range-out c.args.t c.requires c.args.m _ (omega arith) c.wrapping_sub_u16.ensures (omega arith) c.if-wrapping_sub_u16-t.false))
+    sym (if-false _ _ _ (range-out c.args.t c.requires c.args.m _ (omega arith) c.wrapping_sub_u16.ensures.value (omega arith) c.if-wrapping_sub_u16-t.false))

@@ -1,0 +1,13 @@
+-- `leave::any_defect` meets its contract: it is found among the entries passed. Assumes nothing.
+use mathlib.Core.Path.{◌≡◌}
+use Prim.Native.Nat.{◌≤◌, ◌-◌, ◌+◌}
+use lib.ListN.{get_or}
+use Rattle.flat.specs.Codes.{defect_of}
+use Rattle.window.specs.Lists.{any}
+use Rattle.leave.proofs.any_defect.Given as goal
+
+abbrev pub invariant-loop-i : goal.invariant-loop-i
+invariant-loop-i l = (l.i ≤ l.n) × (l.found ≡ any l.i (λ j. defect_of (get_or l.nodes (l.at + j) 0)))
+
+abbrev pub decreases-loop-i : goal.decreases-loop-i
+decreases-loop-i l = l.n - l.i
