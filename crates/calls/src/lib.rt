@@ -17,7 +17,7 @@ pub enum Merged {
     Refused(Refusal),
 }
 
-#[derive(Drop)]
+#[derive(Clone, Copy)]
 pub struct MergingGiven {
     pub answer: Merged,
     pub window: Window,
@@ -31,7 +31,7 @@ pub enum Outcome {
     Refused(Refusal),
 }
 
-#[derive(Drop)]
+#[derive(Clone, Copy)]
 pub struct Concluded {
     pub answer: Outcome,
     pub window: Window,

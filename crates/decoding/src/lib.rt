@@ -1,5 +1,6 @@
 // What a decoding answers. Its rule stands in specs/Decoding.antt, with the theorems on it beside.
 #![tactic(auto)]
+
 use refusal::Refusal;
 use window::Window;
 
@@ -19,7 +20,7 @@ pub enum Record {
 }
 
 // Round after round: how it ended, with which window, at which offset of the input, and the offset behind what was written.
-#[derive(Drop)]
+#[derive(Clone, Copy)]
 pub struct RoundsGiven {
     pub ending: Ending,
     pub window: Window,

@@ -1,6 +1,7 @@
 // The correction bits that a merging step turns: of every edge along which a listed node sends its defect. All are gathered first, then laid
 // down. A node may be listed twice.
 #![tactic(auto)]
+
 ghost use Rattle.std.specs.Prelude.{◌≡◌, true, [], ℕ, ◌+◌, ◌≤◌, ◌<◌, get_or, length};
 ghost use Rattle.flat.specs.Entries.{state_of};
 ghost use Rattle.flat.specs.Laid.{laid};

@@ -1,5 +1,6 @@
 // What the first work list of a turn is made of: the nodes that were cut, with what lies over their open edges, and the new defects; or all nodes.
 #![tactic(auto)]
+
 ghost use Rattle.std.specs.Prelude.{◌≡◌, true, ℕ, ◌+◌, ◌-◌, ◌≤◌, ◌<◌, min, eqb, get_or};
 ghost use Rattle.window.specs.Lists.{any};
 ghost use Rattle.flat.specs.Codes.{defect_of, growth_of};

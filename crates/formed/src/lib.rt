@@ -1,5 +1,6 @@
 // The test that a window is well-formed.
 #![tactic(auto)]
+
 ghost use Rattle.std.specs.Prelude.{◌≡◌, ◌&&◌, ◌*◌};
 ghost use Rattle.shape.specs.Sizes.{model_ok, nodes_of};
 ghost use Rattle.steps.specs.Models.{of_model};

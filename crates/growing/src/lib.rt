@@ -1,5 +1,6 @@
 // Grow on the flat machine's arrays: the edges of active nodes gain halves, and bottom nodes whose pointer falls are cut.
 #![tactic(auto)]
+
 ghost use Rattle.std.specs.Prelude.{◌≡◌, true, false, not, ◌+◌, ◌-◌, ◌%◌, ◌/◌, ◌≤◌, ◌<◌, min, length, get_or, eqb, leb};
 ghost use Rattle.shape.specs.Choice.{if};
 ghost use Rattle.window.specs.Lists.{any, bit};

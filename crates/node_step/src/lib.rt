@@ -1,5 +1,6 @@
 // What one merging step makes of a node, in a word: syncing and flooding together.
 #![tactic(auto)]
+
 ghost use Rattle.std.specs.Prelude.{◌≡◌, ◌+◌, ◌≤◌, ◌<◌};
 ghost use Rattle.flat.specs.Entries.{state_of};
 ghost use Rattle.flat.specs.Plan.{plan_of, Safe};

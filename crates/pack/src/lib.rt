@@ -1,5 +1,6 @@
 // A window from the machine's arrays.
 #![tactic(auto)]
+
 ghost use Rattle.std.specs.Prelude.{◌≡◌, ◌+◌, ◌*◌, ◌≤◌, ◌<◌, length, get_or};
 ghost use Rattle.steps.specs.Models.{of_model};
 ghost use Rattle.flat.specs.Codes.{mark_of, node_of, growth_of, correction_of};

@@ -1,5 +1,6 @@
 // The machine's table of a shape: directions, kinds, the nodes' numbers, a fresh sheet's edges and the bottom layer's, all by the table of steps.
 #![tactic(auto)]
+
 ghost use Rattle.std.specs.Prelude.{◌≡◌, true, ◌&&◌, ◌+◌, ◌-◌, ◌*◌, ◌≤◌, ◌<◌, replicate};
 ghost use Rattle.shape.specs.Choice.{if};
 ghost use Rattle.shape.specs.Sizes.{in_range, sheets_of};

@@ -13,26 +13,26 @@ ghost use Rattle.reader.specs.Reader.{moved};
 use record::{HeaderRead, ResultRead, RoundRead};
 use shape::Shape;
 
-#[derive(Drop)]
+#[derive(Clone, Copy)]
 pub struct Reader<'a> {
     pub src: &'a [u8],
     pub at: usize,
 }
 
 // What a reading finds, and the reader after it.
-#[derive(Drop)]
+#[derive(Clone, Copy)]
 pub struct HeaderNext<'a> {
     pub answer: HeaderRead,
     pub reader: Reader<'a>,
 }
 
-#[derive(Drop)]
+#[derive(Clone, Copy)]
 pub struct RoundNext<'a> {
     pub answer: RoundRead,
     pub reader: Reader<'a>,
 }
 
-#[derive(Drop)]
+#[derive(Clone, Copy)]
 pub struct ResultNext<'a> {
     pub answer: ResultRead,
     pub reader: Reader<'a>,

@@ -1,5 +1,6 @@
 // A round's edges on the flat machine's arrays: every kind one sheet lower, with the new sheet's on top.
 #![tactic(auto)]
+
 ghost use Rattle.std.specs.Prelude.{◌≡◌, ◌*◌, ◌≤◌, ◌<◌, length};
 ghost use Rattle.flat.specs.Entries.{planes};
 ghost use Rattle.flat.specs.Plan.{Safe};

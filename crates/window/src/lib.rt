@@ -41,7 +41,7 @@ pub enum Stage {
 
 // Nodes in the internal order; growth and correction of the edges kind by kind, each at the index of the end that names it;
 // the last measured sheet, a bit a detector, row by row.
-#[derive(Drop)]
+#[derive(Clone, Copy)]
 pub struct Window {
     pub shape: Shape,
     pub stage: Stage,
@@ -88,7 +88,7 @@ pub struct Stepped {
 }
 
 // How a run ended: at rest or not, and the count of steps made.
-#[derive(Drop)]
+#[derive(Clone, Copy)]
 pub struct Ran {
     pub window: Window,
     pub rest: bool,
@@ -103,7 +103,7 @@ pub enum Called {
 }
 
 // A call's answer, and the window after it.
-#[derive(Drop)]
+#[derive(Clone, Copy)]
 pub struct Given {
     pub answer: Called,
     pub window: Window,

@@ -1,0 +1,13 @@
+-- `growing::is_idle` meets its contract: it is found among the entries passed. Assumes nothing.
+use mathlib.Core.Path.{◌≡◌}
+use Prim.Native.Nat.{◌≤◌, ◌-◌, ◌+◌}
+use lib.ListN.{get_or}
+use Rattle.flat.specs.Codes.{active_of}
+use Rattle.window.specs.Lists.{any}
+use Rattle.growing.proofs.is_idle.Given as goal
+
+abbrev pub invariant-loop-i : goal.invariant-loop-i
+invariant-loop-i l = (l.i ≤ 64) × (l.found ≡ any l.i (λ j. active_of (get_or l.nodes (l.at + j) 0)))
+
+abbrev pub decreases-loop-i : goal.decreases-loop-i
+decreases-loop-i l = 64 - l.i
