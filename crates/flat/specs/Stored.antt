@@ -1,5 +1,5 @@
 -- ENTRIES STORED ONE AFTER THE OTHER, from an offset on, by a rule. Assumes nothing.
-use Prim.Native.Nat.{ℕ, zero, suc, ◌+◌, ◌-◌, ◌≤◌, ◌<◌}
+use Prim.Native.Nat.{ℕ, zero, suc, ◌+◌, ◌≤◌, ◌<◌}
 use Rattle.std.proofs.Common.{add-one, ap, ◌∙◌, get_or-set_same}
 use native.Mathlib.Omega.{arith}
 use Rattle.std.specs.Prelude.{◌≡◌, List, get_or, set}

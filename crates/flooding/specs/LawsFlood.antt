@@ -1,5 +1,5 @@
 -- Flooding by its branches. Assumes nothing.
-use Rattle.std.specs.Prelude.{ℕ, ◌-◌, ◌≡◌, Bool, eqb}
+use Rattle.std.specs.Prelude.{ℕ, ◌≡◌, Bool, eqb}
 use Rattle.std.proofs.Common.{ap, sym, ◌∙◌, eq-eqb, ne_eqb}
 use Rattle.shape.specs.Choice.{if-true, if-false}
 use Rattle.flat.specs.Codes.{reset_code}

@@ -10,7 +10,7 @@ use Rattle.shape.specs.Sizes.{max_nodes}
 use Rattle.steps.specs.Steps.{Table, namer, slot_in, slot_kind, slot_node}
 use Rattle.window.specs.Lists.{over, all}
 use Rattle.window.specs.LawsLists.{over-at, over-later, length_over, all_cons}
-use Rattle.window.specs.Window.{unused, beyond, size, at, to}
+use Rattle.window.specs.Window.{unused, beyond, size, to}
 use Rattle.window.specs.Fresh.{slots_of}
 use Rattle.window.specs.Formed.{is_number, is_empty, unused_node}
 use Rattle.window.specs.declared.Mark.{Mark}

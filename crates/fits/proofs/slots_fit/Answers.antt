@@ -1,10 +1,8 @@
 -- `fits::slots_fit` meets its contract. Assumes nothing.
-use mathlib.Core.Bool.{true, false}
-use Prim.Native.Nat.{◌-◌, ◌<◌}
+use Prim.Native.Nat.{◌<◌}
 use native.Mathlib.Omega.{arith}
 use Rattle.steps.specs.Models.{of_model}
 use Rattle.window.specs.LawsLists.{every-none}
-use Rattle.window.specs.Formed.{slot_fits}
 use Rattle.fits.proofs.slots_fit.Lts as lts
 use Rattle.fits.proofs.slots_fit.Tie as tie
 use Rattle.fits.proofs.slots_fit.Reads as reads

@@ -1,5 +1,4 @@
 -- `flooding::scan` meets its contract. Assumes nothing.
-use Prim.Native.Nat.{◌-◌}
 use native.Mathlib.Omega.{arith}
 use Rattle.flat.specs.Bounds.{edge-low, node-low}
 use Rattle.flooding.specs.LawsScan.{closed-again, stopped, higher-again, lower-again, scan-none, scan-done}

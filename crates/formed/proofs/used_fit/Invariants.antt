@@ -5,10 +5,9 @@ use Prim.Native.Nat.{ℕ, ◌≤◌, ◌-◌}
 use Rattle.steps.specs.Steps.{Table}
 use Rattle.steps.specs.Models.{of_model}
 use Rattle.shape.specs.declared.Place.{Place}
-use Rattle.walk.specs.LawsWalk.{stands}
 use Rattle.window.specs.declared.Window.{Window}
 use Rattle.window.specs.Lists.{every}
-use Rattle.window.specs.Window.{at, place}
+use Rattle.window.specs.Window.{place}
 use Rattle.window.specs.Formed.{node_fits_at, slot_fits_at}
 use Rattle.formed.proofs.used_fit.Given as goal
 

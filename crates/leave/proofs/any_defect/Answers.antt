@@ -1,6 +1,5 @@
 -- `leave::any_defect` meets its contract: it is found among the entries passed. Assumes nothing.
 use mathlib.Core.Path.{sym}
-use Prim.Native.Nat.{◌-◌}
 use native.Mathlib.Omega.{arith}
 use Rattle.window.specs.LawsLists.{any_none, any_next}
 use Rattle.leave.specs.LawsLeaving.{any-done}

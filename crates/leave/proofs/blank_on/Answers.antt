@@ -1,5 +1,4 @@
 -- `leave::blank_on` meets its contract: what is below 4 has no bit of a correction. Assumes nothing.
-use Prim.Native.Nat.{◌-◌}
 use native.Mathlib.Omega.{arith}
 use borrow.Author.Tests.{ltb-true}
 use Rattle.leave.specs.LawsLeaving.{small-blank, none_told}

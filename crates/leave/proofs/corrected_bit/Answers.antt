@@ -1,6 +1,5 @@
 -- `leave::corrected_bit` meets its contract. Assumes nothing.
 use mathlib.Core.Path.{◌∙◌, ap}
-use Prim.Native.Nat.{◌-◌}
 use Rattle.window.specs.Lists.{bit}
 use Rattle.leave.proofs.corrected_bit.Goals as goal
 

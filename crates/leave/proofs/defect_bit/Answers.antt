@@ -1,6 +1,5 @@
 -- `leave::defect_bit` meets its contract. Assumes nothing.
 use mathlib.Core.Path.{◌∙◌, ap}
-use Prim.Native.Nat.{◌-◌}
 use Rattle.window.specs.Lists.{bit}
 use Rattle.leave.proofs.defect_bit.Goals as goal
 

@@ -1,5 +1,4 @@
 -- `leave::edge_bits` meets its contract: no entry passed is more. Assumes nothing.
-use Prim.Native.Nat.{◌-◌}
 use native.Mathlib.Omega.{arith}
 use Rattle.leave.specs.LawsLeaving.{bits-next}
 use Rattle.leave.proofs.edge_bits.Goals as goal

@@ -1,7 +1,6 @@
 -- `leave::is_blank` meets its contract: the stretch tells, or each entry. Assumes nothing.
 use mathlib.Core.Path.{sym, ap}
 use mathlib.Core.Bool.{not}
-use Prim.Native.Nat.{◌-◌}
 use Rattle.leave.proofs.is_blank.Goals as goal
 
 pub returns-then-blank_on : goal.returns-then-blank_on

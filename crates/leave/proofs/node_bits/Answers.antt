@@ -1,6 +1,4 @@
 -- `leave::node_bits` meets its contract: without a defect no entry passed has one. Assumes nothing.
-use mathlib.Core.Bool.{false}
-use Prim.Native.Nat.{◌-◌}
 use native.Mathlib.Omega.{arith}
 use Rattle.leave.specs.LawsLeaving.{quiet_next}
 use Rattle.leave.proofs.node_bits.Goals as goal

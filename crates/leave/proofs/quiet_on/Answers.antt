@@ -1,6 +1,5 @@
 -- `leave::quiet_on` meets its contract: no bit of a defect. Assumes nothing.
 use mathlib.Core.Path.{sym, ◌∙◌}
-use Prim.Native.Nat.{◌-◌}
 use native.Mathlib.Omega.{arith}
 use borrow.Author.Tests.{not-true}
 use Rattle.window.specs.LawsLists.{any-not}

@@ -1,7 +1,7 @@
 -- `list::scan_list` meets its contract: the entries that are left end as the whole list does. Assumes nothing.
 use mathlib.Core.Path.{◌≡◌}
 use mathlib.Core.List.{List}
-use Prim.Native.Nat.{ℕ, ◌≤◌, ◌-◌}
+use Prim.Native.Nat.{ℕ, ◌≤◌}
 use lib.ListN.{replicate}
 use Rattle.refusal.specs.Answer.{Answer, without_value}
 use Rattle.list.specs.Sheet.{entries_at, list_at}

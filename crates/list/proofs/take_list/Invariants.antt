@@ -1,7 +1,7 @@
 -- `list::take_list` meets its contract: the entries that are left, stored over those so far, give the whole list. Assumes nothing.
 use mathlib.Core.Path.{◌≡◌}
 use mathlib.Core.List.{List}
-use Prim.Native.Nat.{ℕ, ◌≤◌, ◌-◌}
+use Prim.Native.Nat.{ℕ, ◌≤◌}
 use lib.ListN.{length}
 use Rattle.list.specs.Sheet.{entries_at, list_at}
 use Rattle.list.proofs.take_list.Given as goal

@@ -1,5 +1,5 @@
 -- `list_writer::next_set` meets its contract: there is a gap up to the entry that is looked at. Assumes nothing.
-use Prim.Native.Nat.{◌-◌, ◌+◌}
+use Prim.Native.Nat.{◌+◌}
 use native.Mathlib.Omega.{arith}
 use Rattle.list_writer.specs.Laws.{gap-none, gap-join, gap-one}
 use Rattle.list_writer.proofs.next_set.Goals as goal

@@ -1,7 +1,7 @@
 -- `list_writer::put_measured` meets its contract: the count and the skips so far stand in the buffer, and the skips to come are left. Assumes nothing.
 use mathlib.Core.Path.{◌≡◌}
 use mathlib.Core.List.{List}
-use Prim.Native.Nat.{ℕ, ◌≤◌, ◌-◌}
+use Prim.Native.Nat.{ℕ, ◌≤◌}
 use lib.ListN.{length, drop}
 use Rattle.refusal.specs.Parts.{Parts}
 use Rattle.list.specs.Sheet.{ones, skips, listed}

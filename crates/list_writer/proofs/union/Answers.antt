@@ -1,6 +1,6 @@
 -- `list_writer::union` meets its contract: the bits so far and the entries to come tell the same as the whole. Assumes nothing.
 use mathlib.Core.Path.{◌≡◌, sym, ◌∙◌, ap}
-use Prim.Native.Nat.{ℕ, ◌<◌, ◌-◌, ◌+◌, min, max}
+use Prim.Native.Nat.{ℕ, ◌<◌, ◌+◌, min, max}
 use native.Mathlib.Omega.{arith}
 use lib.Bits.{bit_or}
 use lib.ListN.{length, drop, get_or, drop_of_length-le}

@@ -1,6 +1,6 @@
 -- `plan::fresh_kind` meets its contract. Assumes nothing.
 use mathlib.Core.Path.{refl, ◌∙◌, ap}
-use Prim.Native.Nat.{ℕ, ◌≤◌, ◌-◌, ◌+◌, ◌*◌}
+use Prim.Native.Nat.{ℕ, ◌≤◌, ◌+◌, ◌*◌}
 use native.Mathlib.Omega.{arith}
 use Rattle.plan.specs.Passes.{rows_start, rows_next, blocks-none, blocks-next, blocks-are}
 use Rattle.plan.specs.Table.{fresh_in, area_of}

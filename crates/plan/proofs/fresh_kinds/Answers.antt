@@ -1,6 +1,6 @@
 -- `plan::fresh_kinds` meets its contract. Assumes nothing.
 use mathlib.Core.Path.{◌≡◌, ◌∙◌, ap}
-use Prim.Native.Nat.{ℕ, ◌-◌}
+use Prim.Native.Nat.{ℕ}
 use native.Mathlib.Omega.{arith}
 use Rattle.plan.specs.Passes.{passes, passes_none, passes-next}
 use Rattle.plan.specs.Table.{fresh_on}

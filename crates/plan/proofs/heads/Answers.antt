@@ -1,6 +1,6 @@
 -- `plan::heads` meets its contract. Assumes nothing.
 use mathlib.Core.Path.{◌≡◌, sym, ◌∙◌, ap}
-use Prim.Native.Nat.{ℕ, ◌-◌}
+use Prim.Native.Nat.{ℕ}
 use native.Mathlib.Omega.{arith}
 use Rattle.flat.specs.Stored.{stored, stored-none, stored_next}
 use Rattle.plan.specs.Table.{head_of}

@@ -1,6 +1,6 @@
 -- `plan::numbers_row` meets its contract. Assumes nothing.
 use mathlib.Core.Path.{◌≡◌, ◌∙◌, ap}
-use Prim.Native.Nat.{ℕ, ◌-◌, ◌+◌}
+use Prim.Native.Nat.{ℕ, ◌+◌}
 use native.Mathlib.Omega.{arith}
 use Rattle.flat.specs.Stored.{stored, stored-none, stored_next}
 use Rattle.plan.specs.Table.{row_number}

@@ -1,6 +1,6 @@
 -- `plan::places` meets its contract. Assumes nothing.
 use mathlib.Core.Path.{◌≡◌, refl, ◌∙◌, ap}
-use Prim.Native.Nat.{ℕ, ◌-◌, ◌+◌, ◌*◌}
+use Prim.Native.Nat.{ℕ, ◌+◌, ◌*◌}
 use native.Mathlib.Omega.{arith}
 use Rattle.plan.specs.Passes.{passes, passes_none, passes-next, blocks}
 use Rattle.plan.specs.Table.{places_on, place_row}

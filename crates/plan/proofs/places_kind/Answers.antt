@@ -1,6 +1,6 @@
 -- `plan::places_kind` meets its contract. Assumes nothing.
 use mathlib.Core.Path.{◌≡◌, refl, ◌∙◌, ap, ap₂}
-use Prim.Native.Nat.{ℕ, ◌-◌, ◌+◌, ◌*◌}
+use Prim.Native.Nat.{ℕ, ◌+◌, ◌*◌}
 use native.Mathlib.Omega.{arith}
 use Rattle.plan.specs.Passes.{rows_start, rows_next, blocks-none, blocks-next, blocks-are}
 use Rattle.plan.specs.Loops.{PlacesLow, places-low, rows_is, columns-is, places-are}

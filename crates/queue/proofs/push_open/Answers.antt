@@ -1,4 +1,3 @@
-use Prim.Native.Nat.{◌-◌}
 use native.Mathlib.Omega.{arith}
 use Rattle.flat.specs.Bounds.{edge-low, node-low}
 use Rattle.queue.specs.LawsPush.{opened-first, opened-closed, opened-open, opened-all}

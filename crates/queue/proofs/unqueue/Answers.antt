@@ -1,6 +1,4 @@
 use mathlib.Core.Path.{◌≡◌, refl}
-use mathlib.Core.Bool.{false}
-use Prim.Native.Nat.{◌-◌}
 use native.Mathlib.Omega.{arith}
 use Rattle.flat.specs.Laid.{laid_none, laid_next}
 use Rattle.queue.specs.LawsTrues.{queue-most}

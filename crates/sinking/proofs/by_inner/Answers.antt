@@ -1,5 +1,5 @@
 -- `sinking::by_inner` meets its contract: one test of a wrapped number tells the range. Assumes nothing.
-use Rattle.std.proofs.Common.{◌-◌, sym, arith}
+use Rattle.std.proofs.Common.{sym, arith}
 use Rattle.shape.specs.Choice.{if-true, if-false}
 use Rattle.sinking.specs.LawsSunk.{range-in, range-out}
 use Rattle.sinking.proofs.by_inner.Goals as goal

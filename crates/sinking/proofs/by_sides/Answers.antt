@@ -1,5 +1,5 @@
 -- `sinking::by_sides` meets its contract. Assumes nothing.
-use Rattle.std.proofs.Common.{◌-◌, sym, le-ltb, lt-ltb}
+use Rattle.std.proofs.Common.{sym, le-ltb, lt-ltb}
 use Rattle.shape.specs.Choice.{if-true, if-false}
 use Rattle.sinking.proofs.by_sides.Goals as goal
 

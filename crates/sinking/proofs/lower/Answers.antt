@@ -1,5 +1,5 @@
 -- `sinking::lower` meets its contract: no sum wraps. Assumes nothing.
-use Rattle.std.proofs.Common.{◌-◌, arith}
+use Rattle.std.proofs.Common.{arith}
 use Rattle.sinking.specs.LawsSunk.{lowered-most}
 use Rattle.sinking.proofs.lower.Goals as goal
 

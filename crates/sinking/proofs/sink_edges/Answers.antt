@@ -1,5 +1,5 @@
 -- `sinking::sink_edges` meets its contract: the entries passed are those one sheet above. Assumes nothing.
-use Rattle.std.proofs.Common.{◌-◌, refl, arith}
+use Rattle.std.proofs.Common.{refl, arith}
 use Rattle.flat.specs.Stored.{stored-none, stored_next, stored-done}
 use Rattle.sinking.proofs.sink_edges.Goals as goal
 

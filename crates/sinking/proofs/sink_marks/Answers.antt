@@ -1,5 +1,5 @@
 -- `sinking::sink_marks` meets its contract: the entries passed are lowered. Assumes nothing.
-use Rattle.std.proofs.Common.{◌-◌, arith}
+use Rattle.std.proofs.Common.{arith}
 use Rattle.flat.specs.Stored.{stored-none, stored_next, stored-done}
 use Rattle.sinking.proofs.sink_marks.Goals as goal
 

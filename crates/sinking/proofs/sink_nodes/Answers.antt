@@ -1,7 +1,6 @@
 -- `sinking::sink_nodes` meets its contract: the entries passed are settled. Assumes nothing.
-use Rattle.std.proofs.Common.{◌-◌, arith}
+use Rattle.std.proofs.Common.{arith}
 use Rattle.flat.specs.Stored.{stored-none, stored_next, stored-done}
-use Rattle.sinking.specs.Sunk.{settled}
 use Rattle.sinking.proofs.sink_nodes.Goals as goal
 
 pub overflow_add-down : goal.overflow_add-down

@@ -1,5 +1,5 @@
 -- `sinking::thresholds_of` meets its contract: no number wraps. Assumes nothing.
-use Rattle.std.proofs.Common.{◌-◌, arith}
+use Rattle.std.proofs.Common.{arith}
 use Rattle.shape.specs.Ranges.{ranged}
 use Rattle.shape.specs.LawsSizes.{detectors-le}
 use Rattle.sinking.specs.LawsSunk.{sides-le, boundary-le, inner-le}

@@ -1,5 +1,4 @@
 -- `sunk_edges::lay_kind` meets its contract: by the three ways through it. Assumes nothing.
-use Prim.Native.Nat.{◌-◌}
 use Rattle.sunk_edges.specs.LawsEdges.{lays-level, lays-second, lays-first}
 use Rattle.sunk_edges.proofs.lay_kind.Goals as goal
 

@@ -1,5 +1,4 @@
 -- `sunk_edges::sink_kinds` meets its contract: the kinds passed are one sheet lower. Assumes nothing.
-use Prim.Native.Nat.{◌-◌}
 use native.Mathlib.Omega.{arith}
 use Rattle.flat.specs.LawsEntries.{at-end}
 use Rattle.sunk_edges.specs.Edges.{Sank}

@@ -1,6 +1,4 @@
 -- `syncing::arrives` meets its contract. Assumes nothing.
-use mathlib.Core.Bool.{false}
-use Prim.Native.Nat.{◌-◌}
 use native.Mathlib.Omega.{arith}
 use Rattle.flat.specs.Bounds.{edge-low, node-low}
 use Rattle.syncing.specs.LawsArrived.{none-again, edge-again, arrived-none, arrived-done}

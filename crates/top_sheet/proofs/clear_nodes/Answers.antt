@@ -1,6 +1,5 @@
 -- `top_sheet::clear_nodes` meets its contract: the entries passed are cleared. Assumes nothing.
 use mathlib.Core.Path.{refl}
-use Prim.Native.Nat.{◌-◌}
 use native.Mathlib.Omega.{arith}
 use Rattle.flat.specs.Stored.{stored-none, stored_next, stored-done}
 use Rattle.top_sheet.proofs.clear_nodes.Goals as goal

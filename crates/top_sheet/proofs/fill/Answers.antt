@@ -1,6 +1,5 @@
 -- `top_sheet::fill` meets its contract: the entries passed have the value. Assumes nothing.
 use mathlib.Core.Path.{refl}
-use Prim.Native.Nat.{◌-◌}
 use native.Mathlib.Omega.{arith}
 use Rattle.flat.specs.Stored.{stored-none, stored_next, stored-done}
 use Rattle.top_sheet.proofs.fill.Goals as goal

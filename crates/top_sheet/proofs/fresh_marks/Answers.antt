@@ -1,6 +1,5 @@
 -- `top_sheet::fresh_marks` meets its contract: the entries passed have their numbers. Assumes nothing.
 use mathlib.Core.Path.{refl}
-use Prim.Native.Nat.{◌-◌}
 use native.Mathlib.Omega.{arith}
 use Rattle.flat.specs.Stored.{stored-none, stored_next, stored-done}
 use Rattle.top_sheet.proofs.fresh_marks.Goals as goal

@@ -1,5 +1,4 @@
 -- `top_sheet::lay_edges` meets its contract: the entries passed are as the table has them. Assumes nothing.
-use Prim.Native.Nat.{◌-◌}
 use native.Mathlib.Omega.{arith}
 use Rattle.flat.specs.Stored.{stored-none, stored_next, stored-done}
 use Rattle.top_sheet.proofs.lay_edges.Goals as goal

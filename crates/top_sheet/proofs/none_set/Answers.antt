@@ -1,5 +1,4 @@
 -- `top_sheet::none_set` meets its contract: bytes that have no bit together are 0. Assumes nothing.
-use Prim.Native.Nat.{◌-◌}
 use native.Mathlib.Omega.{arith}
 use borrow.Author.Tests.{eqb-true}
 use Rattle.top_sheet.specs.LawsReceived.{none-next}

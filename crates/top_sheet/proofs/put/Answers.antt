@@ -1,6 +1,5 @@
 -- `top_sheet::put` meets its contract. Assumes nothing.
 use mathlib.Core.Path.{sym}
-use Prim.Native.Nat.{◌-◌}
 use borrow.Author.Tests.{eq-eqb, ne_eqb}
 use Rattle.shape.specs.Choice.{if-true, if-false}
 use native.Mathlib.Omega.{arith}

@@ -1,6 +1,5 @@
 -- `top_sheet::put_block` meets its contract: a block with no byte set puts nothing. Assumes nothing.
 use mathlib.Core.Path.{sym}
-use Prim.Native.Nat.{◌-◌}
 use Rattle.top_sheet.specs.LawsReceived.{put-blank}
 use Rattle.top_sheet.proofs.put_block.Goals as goal
 

@@ -1,5 +1,5 @@
 -- `top_sheet::put_part` meets its contract: the bytes passed are put. Assumes nothing.
-use Prim.Native.Nat.{◌-◌, ◌+◌}
+use Prim.Native.Nat.{◌+◌}
 use native.Mathlib.Omega.{arith}
 use Rattle.top_sheet.specs.LawsReceived.{put-none, put_next, put-done}
 use Rattle.top_sheet.proofs.put_part.Goals as goal

@@ -1,7 +1,6 @@
 -- `unused::bits_unused` meets its contract. Assumes nothing.
 use mathlib.Core.Path.{refl}
 use mathlib.Core.Bool.{false, not}
-use Prim.Native.Nat.{◌-◌}
 use Rattle.unused.proofs.Behind.{reads, has-read}
 use Rattle.unused.proofs.bits_unused.Goals as goal
 

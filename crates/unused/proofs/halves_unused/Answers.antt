@@ -1,6 +1,5 @@
 -- `unused::halves_unused` meets its contract. Assumes nothing.
 use mathlib.Core.Path.{refl}
-use Prim.Native.Nat.{◌-◌}
 use Rattle.window.specs.Formed.{is_empty}
 use Rattle.unused.proofs.Behind.{reads, has-read}
 use Rattle.unused.proofs.halves_unused.Goals as goal

@@ -1,8 +1,7 @@
 -- `unused::rest_unused` meets its contract. Assumes nothing.
 use mathlib.Core.Path.{refl, ◌∙◌}
-use Prim.Native.Nat.{◌-◌}
 use native.Mathlib.Omega.{arith}
-use lib.ListN.{get_or, length-map}
+use lib.ListN.{get_or}
 use Rattle.window.specs.Formed.{unused_node}
 use Rattle.window.specs.LawsFormed.{fresh-reset, fresh-root}
 use Rattle.window.specs.Window.{beyond}
