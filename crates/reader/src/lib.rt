@@ -1,6 +1,6 @@
 // A reader that carries its stream: the lent bytes and the offset of the next record. Each reading is the one on a slice and an offset, and
-// hands back the reader behind what was read, or as it was. The borrow checker covers no function over a struct with a reference, so these
-// are thin, and proved by hand. What carries a reader and has plain parameters stands in crate stream.
+// hands back the reader behind what was read, or as it was. These are thin; what carries a reader and has plain parameters stands in crate
+// stream.
 #![tactic(auto)]
 
 ghost use Rattle.std.specs.Prelude.{◌≡◌, ◌-◌, length};

@@ -1,7 +1,5 @@
-use Prim.Native.Nat.{◌-◌}
 use native.Mathlib.Omega.{arith}
 use Rattle.flat.specs.Stored.{stored-none, stored-done}
-use Rattle.growing.specs.Grown.{cut_node, cut_mark}
 use Rattle.growing.specs.LawsCut.{cut-node-next, cut-mark-next}
 use Rattle.growing.proofs.cut_strip.Goals as goal
 

@@ -1,6 +1,6 @@
 -- `growing::grow_edge` meets its contract: a full edge and none stay, a half more, and both ends of one that opens. Assumes nothing.
 use mathlib.Core.Path.{◌≡◌, sym, subst}
-use Prim.Native.Nat.{ℕ, ◌<◌, ◌-◌}
+use Prim.Native.Nat.{ℕ, ◌<◌}
 use native.Mathlib.Omega.{arith}
 use Rattle.flat.specs.Entries.{planes}
 use Rattle.flat.specs.Plan.{plan_of}

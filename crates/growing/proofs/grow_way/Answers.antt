@@ -1,7 +1,7 @@
 -- `growing::grow_way` meets its contract. Assumes nothing.
 use mathlib.Core.Path.{◌≡◌, ◌∙◌, ap}
 use mathlib.Core.Bool.{true}
-use Prim.Native.Nat.{◌-◌, ◌+◌}
+use Prim.Native.Nat.{◌+◌}
 use native.Mathlib.Omega.{arith}
 use Rattle.flat.specs.Entries.{within}
 use Rattle.flat.specs.LawsEntries.{inside, at-end}

@@ -1,6 +1,6 @@
 -- `growing::grow_ways` meets its contract. Assumes nothing.
 use mathlib.Core.Path.{◌≡◌, ◌∙◌, ap}
-use Prim.Native.Nat.{ℕ, ◌<◌, ◌-◌, ◌+◌}
+use Prim.Native.Nat.{ℕ, ◌<◌, ◌+◌}
 use native.Mathlib.Omega.{arith}
 use Rattle.flat.specs.Entries.{within}
 use Rattle.flat.specs.LawsEntries.{at-end}

@@ -1,6 +1,5 @@
 -- `growing::is_idle` meets its contract: it is found among the entries passed. Assumes nothing.
 use mathlib.Core.Path.{sym, ap}
-use Prim.Native.Nat.{◌-◌}
 use native.Mathlib.Omega.{arith}
 use Rattle.window.specs.LawsLists.{any_none, any_next}
 use Rattle.growing.specs.LawsListed.{any-done}

@@ -1,6 +1,5 @@
 -- `growing::list_active` meets its contract. Assumes nothing.
 use mathlib.Core.Path.{refl, sym, ◌∙◌}
-use Prim.Native.Nat.{◌-◌}
 use native.Mathlib.Omega.{arith}
 use borrow.Author.Tests.{not-true}
 use Rattle.growing.specs.LawsListed.{actives-none, actives-here, actives-on, actives-all, part-idle}
