@@ -1,5 +1,6 @@
 // Grow on the machine's arrays.
 #![tactic(auto)]
+
 ghost use Rattle.std.specs.Prelude.{◌≡◌, length};
 ghost use Rattle.flat.specs.Entries.{state_of, Long};
 ghost use Rattle.flat.specs.Plan.{plan_of, Safe};

@@ -27,7 +27,7 @@ use Rattle.law_holds.specs.Rules.{with_window, taken, Invariant}
 pub play-append : (T : Table) (p : Played) (cs ds : List Call) → play T p (cs ++ ds) ≡ play T (play T p cs) ds
 unfolding play
 play-append T p [] ds = refl
-play-append T p (c ∷ cs) ds = play-append T _ cs ds
+play-append T p (c ∷ cs) ds = play-append T (called T p c) cs ds
 
 module _ (T : Table) (S : Suited T) (I : Played → Type 0) (inv : Invariant T I) where
   record Good (p : Played) : Type 0 where

@@ -1,5 +1,6 @@
 // The round that a decoding receives next: the offsets in both slices, the end, the last round there can be, and then the round's bytes.
 #![tactic(auto)]
+
 ghost use Rattle.std.specs.Prelude.{◌≡◌, length, replicate};
 ghost use Rattle.refusal.specs.Writing.{buffered};
 ghost use Rattle.list.specs.Sheet.{read_into};

@@ -1,5 +1,6 @@
 // What a call answers to a program in C: the status that it returns, the place and the values that it is lent.
 #![tactic(auto)]
+
 ghost use Rattle.std.specs.Prelude.{◌≡◌};
 ghost use Rattle.refusal.specs.Answer.{turned};
 ghost use Rattle.number.specs.Number.{number_answer, written_answer};

@@ -1,6 +1,7 @@
 // Streams read by a reader that is carried, with plain parameters: one record at an offset, and a whole stream. The borrow checker covers no
 // function with a reader in it, so what makes one is proved by hand; callers need no walk.
 #![tactic(auto)]
+
 ghost use Rattle.std.specs.Prelude.{◌≡◌, length};
 ghost use Rattle.refusal.specs.Answer.{next_or};
 ghost use Rattle.refusal.specs.Bytes.{Bytes};

@@ -1,5 +1,6 @@
 // What a call tests before it does anything, in the documents' order.
 #![tactic(auto)]
+
 ghost use Rattle.std.specs.Prelude.{◌≡◌};
 ghost use Rattle.refusal.specs.Answer.{done, unless};
 ghost use Rattle.steps.specs.Models.{of_model};

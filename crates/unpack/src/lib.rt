@@ -1,5 +1,6 @@
 // A window as the machine's arrays.
 #![tactic(auto)]
+
 ghost use Rattle.std.specs.Prelude.{◌≡◌, true, ℕ, ◌+◌, ◌-◌, ◌*◌, ◌≤◌, ◌<◌, length, get_or, replicate};
 ghost use Rattle.steps.specs.Models.{of_model};
 ghost use Rattle.window.specs.Lists.{every};

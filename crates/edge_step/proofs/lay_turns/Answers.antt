@@ -1,5 +1,4 @@
 use mathlib.Core.Path.{◌≡◌, refl}
-use Prim.Native.Nat.{◌-◌}
 use native.Mathlib.Omega.{arith}
 use Rattle.flat.specs.Laid.{laid_none, laid_next}
 use Rattle.edge_step.proofs.lay_turns.Goals as goal

@@ -1,6 +1,6 @@
 -- `pack::growth_kind` meets its contract. Assumes nothing.
 use mathlib.Core.Path.{◌≡◌, ◌∙◌, ap}
-use Prim.Native.Nat.{ℕ, ◌-◌, ◌+◌}
+use Prim.Native.Nat.{ℕ, ◌+◌}
 use native.Mathlib.Omega.{arith}
 use Rattle.flat.specs.Stored.{stored, stored-none, stored_next}
 use Rattle.flat.specs.Codes.{growth_of}

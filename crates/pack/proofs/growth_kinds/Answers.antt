@@ -1,6 +1,6 @@
 -- `pack::growth_kinds` meets its contract. Assumes nothing.
 use mathlib.Core.Path.{◌≡◌, ◌∙◌, ap}
-use Prim.Native.Nat.{ℕ, ◌≤◌, ◌<◌, ◌-◌, ◌+◌}
+use Prim.Native.Nat.{ℕ, ◌≤◌, ◌<◌, ◌+◌}
 use native.Mathlib.Omega.{arith}
 use Rattle.pack.specs.Packed.{growth_rule, kind-first, kind-next, slots-low, kinds-are}
 use Rattle.steps.specs.Models.{of_model, few-kinds}

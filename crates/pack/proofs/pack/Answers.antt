@@ -1,6 +1,6 @@
 -- `pack::pack` meets its contract. Assumes nothing.
 use mathlib.Core.Path.{sym, ◌∙◌, ap, subst}
-use Prim.Native.Nat.{ℕ, ◌≤◌, ◌<◌, ◌-◌}
+use Prim.Native.Nat.{ℕ, ◌≤◌, ◌<◌}
 use native.Mathlib.Omega.{arith}
 use Rattle.pack.specs.Packed.{node_rule, packed}
 use Rattle.shape.specs.LawsIndex.{nodes-max}
