@@ -2,7 +2,6 @@
 # Runs every test: proofs, must-fail edits and programs by `rt ci`, then the proved archive against the
 # second implementation in rust/. The last line is the sum, 'N passed, M failed'; the one before it says what took how long.
 set -u
-archive=exports
 passed=0 failed=0
 proving=0 testing=0
 
@@ -34,9 +33,6 @@ command -v cargo >/dev/null || stop "no cargo on PATH: the Rust toolchain is mis
 log=$(mktemp) || stop "no temporary file can be made"
 trap 'rm -f "$log"' EXIT
 
-# rt waits for each group of checks before it starts the next: larger groups leave the processors less idle.
-export RT_JOBS=${RT_JOBS:-$((2 * $(nproc)))}
-
 # rt's own sum is named, so that the only bare one is the last line.
 SECONDS=0
 rt ci | tee "$log" | sed -uE 's/^[0-9]+ passed, [0-9]+ failed$/rt ci: &/'
@@ -44,10 +40,13 @@ status=${PIPESTATUS[0]}
 proving=$SECONDS
 [[ $(tail -n 1 "$log") =~ ^([0-9]+)\ passed,\ ([0-9]+)\ failed$ ]] || stop "rt ci (status $status) gave no count"
 add "rt ci" "$status" "${BASH_REMATCH[1]}" "${BASH_REMATCH[2]}"
+# rt ci passes where a must-fail edit is bad, one that cannot be applied or read, and says so on its line 'rt: ok'.
+ok=$(grep '^rt: ok' "$log" | tail -n 1)
+[ -n "$ok" ] || stop "rt ci gave no line 'rt: ok'"
+if [[ $ok =~ ,\ ([0-9]+)\ bad ]] && [ "${BASH_REMATCH[1]}" -gt 0 ]; then stop "bad must-fail edits: ${BASH_REMATCH[1]}"; fi
 
-# After rt ci, which removes target/.
 SECONDS=0
-rt staticlib "$archive" || stop "rt staticlib $archive ended with status $?"
+./archive.sh over-ci || stop "archive.sh ended with status $?"
 
 (cd rust && CARGO_TERM_COLOR=never cargo test --release --offline --locked --no-fail-fast) | tee "$log"
 status=${PIPESTATUS[0]}

@@ -10,7 +10,7 @@ fn main() {
     let archive = folder.join(format!("lib{ARCHIVE}.a"));
     println!("cargo::rerun-if-changed={}", archive.display());
     if !archive.exists() {
-        println!("cargo::error=no proved archive to test: run `rt staticlib {ARCHIVE}` at the repository's root first");
+        println!("cargo::error=no proved archive to test: run `./archive.sh` at the repository's root first");
         return;
     }
     println!("cargo::rustc-link-search=native={}", folder.display());

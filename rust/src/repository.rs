@@ -15,8 +15,8 @@ pub fn text(file: impl AsRef<Path>) -> String {
 
 /// A program by its name.
 pub fn program(name: &str) -> PathBuf {
-    let program = root().join("target/bin").join(name);
-    assert!(program.exists(), "no program to test: run `rt check {name}` at the repository's root first");
+    let program = root().join("crates").join(name).join("out").join(name);
+    assert!(program.exists(), "no program to test: run `rt run <stdin` in crates/{name} first");
     program
 }
 

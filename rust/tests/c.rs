@@ -40,10 +40,11 @@ fn built_and_run(source: &str, name: &str, flags: &[&str]) -> Output {
 
 #[test]
 fn every_exported_function_is_declared() {
-    let exported = names("crates/exports/src/lib.rt");
+    let exported = names("crates/exports_c/src/lib.rt");
     assert!(exported.len() > 10);
     assert_eq!(names("include/baizeridge.h"), exported);
     assert_eq!(names("rust/src/proved.rs"), exported);
+    assert_eq!(names("crates/exports/src/lib.rt"), exported);
 }
 
 #[test]

@@ -163,7 +163,7 @@ fn random_streams() {
     assert!(whole == 105 && refused >= 20, "{whole} whole, {refused} refused");
 }
 
-/// The example beside the program, which `rt check decode` runs it on.
+/// The example beside the program, which `rt ci` runs it on.
 #[test]
 fn stored_example() {
     let file = |name| read(repository::root().join("crates/decode").join(name));

@@ -1,13 +1,14 @@
-// Streams and decoding for programs in C: numbers, byte slices and lent numbers only. Each call ensures one equation, between a record of what
-// its caller sees, by the header's names, and what `specs/Calls.antt` makes of the arguments. `crates/reply` has the status and the place,
-// `crates/named` the shape that a height, a distance and a model name, with its sizes, `crates/bound` the bound on merging steps, and
-// `crates/creation` whether a caller's limits allow a shape.
+// Streams and decoding for programs in C, to which `crates/exports_c` hands each function on by its name: numbers, byte slices and lent numbers only.
+// Each call ensures one equation, between a record of what its caller sees, by the header's names, and what `specs/Calls.antt` makes of the
+// arguments. `crates/reply` has the status and the place, `crates/named` the shape that a height, a distance and a model name, with its sizes,
+// `crates/bound` the bound on merging steps, and `crates/creation` whether a caller's limits allow a shape.
 //
 // A reader or writer returns 0 where it is done, 255 where no bytes are left, and else the refusal's number; unless it returns 0, it leaves
 // every buffer, value and lent offset as it was. `place` takes the offset behind the record, or that of the number's first byte with 7, 8 and 9,
 // and is left alone otherwise. `baizeridge_decode` alone keeps what it finished: however it ends, `count` takes the length of what was written
 // at the front of `out`, the header if it was read and the finished rounds, and the bytes behind stay.
 #![tactic(auto)]
+
 ghost use Rattle.std.specs.Prelude.{◌≡◌};
 ghost use Rattle.reply.specs.Reply.{reply, value_out, header_out, scan_out};
 ghost use Rattle.exports.specs.Calls.{number_read, buffer_out, number_written, list_read, list_written, taken, header_read, header_taken, header_written, round_out, round_read, round_taken, round_written, result_out, result_read, result_taken, result_written, input_scanned, results_scanned, decode_out, stream_decoded};
@@ -16,52 +17,28 @@ ghost use Rattle.bound.specs.Bound.{step_bound};
 ghost use Rattle.creation.specs.Creation.{allowed_shape};
 ghost use Rattle.refusal.specs.Answer.{status};
 
-#[unsafe(no_mangle)]
-pub extern "C" fn baizeridge_read_number(
-    src: &[u8],
-    at: usize,
-    value: &mut u32,
-    place: &mut usize,
-) -> u8
+pub fn baizeridge_read_number(src: &[u8], at: usize, value: &mut u32, place: &mut usize) -> u8
     ensures { value_out (reply result place.new) value.new ≡ number_read src.now at value.old place.old }
 {
     let n = number::read_number(src, at);
     reply::number(n, value, place)
 }
 
-#[unsafe(no_mangle)]
-pub extern "C" fn baizeridge_write_number(
-    n: u32,
-    out: &mut [u8],
-    at: usize,
-    place: &mut usize,
-) -> u8
+pub fn baizeridge_write_number(n: u32, out: &mut [u8], at: usize, place: &mut usize) -> u8
     ensures { buffer_out (reply result place.new) out.new ≡ number_written n out.old at place.old }
 {
     let w = number::write_number(n, out, at);
     reply::wrote(w, place)
 }
 
-#[unsafe(no_mangle)]
-pub extern "C" fn baizeridge_read_list(
-    src: &[u8],
-    at: usize,
-    out: &mut [u8],
-    place: &mut usize,
-) -> u8
+pub fn baizeridge_read_list(src: &[u8], at: usize, out: &mut [u8], place: &mut usize) -> u8
     ensures { buffer_out (reply result place.new) out.new ≡ list_read src.now at out.old place.old }
 {
     let l = list::read_list(src, at, out);
     reply::list(l, place)
 }
 
-#[unsafe(no_mangle)]
-pub extern "C" fn baizeridge_write_list(
-    entries: &[u8],
-    out: &mut [u8],
-    at: usize,
-    place: &mut usize,
-) -> u8
+pub fn baizeridge_write_list(entries: &[u8], out: &mut [u8], at: usize, place: &mut usize) -> u8
     ensures { buffer_out (reply result place.new) out.new ≡ list_written entries.now out.old at place.old }
 {
     let w = list_writer::write_list(entries, out, at);
@@ -69,8 +46,7 @@ pub extern "C" fn baizeridge_write_list(
 }
 
 // A reader `take_` moves the lent offset behind the record, and leaves it where none was read; `read_` is the same with an offset by value.
-#[unsafe(no_mangle)]
-pub extern "C" fn baizeridge_take_header(
+pub fn baizeridge_take_header(
     src: &[u8],
     at: &mut usize,
     height: &mut u32,
@@ -84,8 +60,7 @@ pub extern "C" fn baizeridge_take_header(
     reply::header(h, height, distance, model, place)
 }
 
-#[unsafe(no_mangle)]
-pub extern "C" fn baizeridge_read_header(
+pub fn baizeridge_read_header(
     src: &[u8],
     at: usize,
     height: &mut u32,
@@ -99,8 +74,7 @@ pub extern "C" fn baizeridge_read_header(
     baizeridge_take_header(src, &mut from, height, distance, model, place)
 }
 
-#[unsafe(no_mangle)]
-pub extern "C" fn baizeridge_write_header(
+pub fn baizeridge_write_header(
     height: u32,
     distance: u32,
     model: u32,
@@ -115,8 +89,7 @@ pub extern "C" fn baizeridge_write_header(
     reply::wrote(w, place)
 }
 
-#[unsafe(no_mangle)]
-pub extern "C" fn baizeridge_take_round(
+pub fn baizeridge_take_round(
     height: u32,
     distance: u32,
     model: u32,
@@ -132,8 +105,7 @@ pub extern "C" fn baizeridge_take_round(
     reply::round(d, place)
 }
 
-#[unsafe(no_mangle)]
-pub extern "C" fn baizeridge_read_round(
+pub fn baizeridge_read_round(
     height: u32,
     distance: u32,
     model: u32,
@@ -148,8 +120,7 @@ pub extern "C" fn baizeridge_read_round(
     baizeridge_take_round(height, distance, model, src, &mut from, defects, place)
 }
 
-#[unsafe(no_mangle)]
-pub extern "C" fn baizeridge_write_round(
+pub fn baizeridge_write_round(
     height: u32,
     distance: u32,
     model: u32,
@@ -165,8 +136,7 @@ pub extern "C" fn baizeridge_write_round(
     reply::wrote(w, place)
 }
 
-#[unsafe(no_mangle)]
-pub extern "C" fn baizeridge_take_result(
+pub fn baizeridge_take_result(
     height: u32,
     distance: u32,
     model: u32,
@@ -184,8 +154,7 @@ pub extern "C" fn baizeridge_take_result(
     reply::result(d, steps, place)
 }
 
-#[unsafe(no_mangle)]
-pub extern "C" fn baizeridge_read_result(
+pub fn baizeridge_read_result(
     height: u32,
     distance: u32,
     model: u32,
@@ -204,8 +173,7 @@ pub extern "C" fn baizeridge_read_result(
     )
 }
 
-#[unsafe(no_mangle)]
-pub extern "C" fn baizeridge_write_result(
+pub fn baizeridge_write_result(
     height: u32,
     distance: u32,
     model: u32,
@@ -224,8 +192,7 @@ pub extern "C" fn baizeridge_write_result(
 }
 
 // Reads a whole input stream. The place takes its length.
-#[unsafe(no_mangle)]
-pub extern "C" fn baizeridge_scan_input(
+pub fn baizeridge_scan_input(
     src: &[u8],
     height: &mut u32,
     distance: &mut u32,
@@ -240,8 +207,7 @@ pub extern "C" fn baizeridge_scan_input(
 }
 
 // Reads a whole result stream in the same way.
-#[unsafe(no_mangle)]
-pub extern "C" fn baizeridge_scan_results(
+pub fn baizeridge_scan_results(
     src: &[u8],
     height: &mut u32,
     distance: &mut u32,
@@ -256,40 +222,35 @@ pub extern "C" fn baizeridge_scan_results(
 }
 
 // The sizes of a shape, 0 where it is refused: the nodes of its window,
-#[unsafe(no_mangle)]
-pub extern "C" fn baizeridge_nodes(height: u32, distance: u32, model: u32) -> usize
+pub fn baizeridge_nodes(height: u32, distance: u32, model: u32) -> usize
     ensures { result ≡ nodes_by height distance model }
 {
     named::nodes(height, distance, model)
 }
 
 // the detectors of a sheet,
-#[unsafe(no_mangle)]
-pub extern "C" fn baizeridge_detectors(height: u32, distance: u32, model: u32) -> usize
+pub fn baizeridge_detectors(height: u32, distance: u32, model: u32) -> usize
     ensures { result ≡ detectors_by height distance model }
 {
     named::detectors(height, distance, model)
 }
 
 // and the edges of a layer.
-#[unsafe(no_mangle)]
-pub extern "C" fn baizeridge_layer_edges(height: u32, distance: u32, model: u32) -> usize
+pub fn baizeridge_layer_edges(height: u32, distance: u32, model: u32) -> usize
     ensures { result ≡ edges_by height distance model }
 {
     named::layer_edges(height, distance, model)
 }
 
 // The most merging steps of a merging stage in a window of the shape; 0 where it is refused.
-#[unsafe(no_mangle)]
-pub extern "C" fn baizeridge_step_bound(height: u32, distance: u32, model: u32) -> usize
+pub fn baizeridge_step_bound(height: u32, distance: u32, model: u32) -> usize
     ensures { result ≡ step_bound height distance model }
 {
     bound::step_bound(height, distance, model)
 }
 
 // S-6: whether the caller's largest height and distance allow a shape, told before there is a window: 0, else the refusal's number.
-#[unsafe(no_mangle)]
-pub extern "C" fn baizeridge_allowed(
+pub fn baizeridge_allowed(
     height: u32,
     distance: u32,
     model: u32,
@@ -304,13 +265,7 @@ pub extern "C" fn baizeridge_allowed(
 // Decodes a whole input stream. The result stream goes to the front of out, and count takes its length, however it ends: the header's bytes, if
 // it was read and had room, and those of the finished rounds; the bytes behind them stay as they were. Returns 0 where the input's end is reached,
 // 254 where a round ends spent, and none does (crates/rests), else the refusal's number; place takes the offset that a refusal carries.
-#[unsafe(no_mangle)]
-pub extern "C" fn baizeridge_decode(
-    src: &[u8],
-    out: &mut [u8],
-    count: &mut usize,
-    place: &mut usize,
-) -> u8
+pub fn baizeridge_decode(src: &[u8], out: &mut [u8], count: &mut usize, place: &mut usize) -> u8
     ensures { decode_out (reply result place.new) out.new count.new ≡ stream_decoded src.now out.old place.old }
 {
     let r = session::decode(src, out);
