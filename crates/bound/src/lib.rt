@@ -1,5 +1,6 @@
 // S-5, merging comes to rest: the statement in specs/Bound.antt, its proof in specs/Theorem.antt, and here the bound as a function.
 #![tactic(auto)]
+
 ghost use Rattle.std.specs.Prelude.{◌≡◌};
 ghost use Rattle.bound.specs.Bound.{bound_of, step_bound};
 

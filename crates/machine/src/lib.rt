@@ -1,5 +1,6 @@
 // The rules on windows: a window becomes the machine's arrays, the work is done on these, and the window is made of them again.
 #![tactic(auto)]
+
 ghost use Rattle.std.specs.Prelude.{◌≡◌, true, false, ◌<◌, length};
 ghost use Rattle.shape.specs.Choice.{if};
 ghost use Rattle.shape.specs.Sizes.{detectors_of, layer_edges_of};

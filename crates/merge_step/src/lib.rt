@@ -1,6 +1,7 @@
 // One merging step over a work list: what becomes of all listed nodes is gathered first, then laid down, so that each reads the state before
 // the step.
 #![tactic(auto)]
+
 ghost use Rattle.std.specs.Prelude.{◌≡◌, ℕ, ◌+◌, ◌≤◌, ◌<◌, get_or, length};
 ghost use Rattle.flat.specs.Entries.{state_of};
 ghost use Rattle.flat.specs.Laid.{laid};

@@ -1,5 +1,6 @@
 // The work list of the next merging step: what stirs, and what lies over its open edges.
 #![tactic(auto)]
+
 ghost use Rattle.std.specs.Prelude.{◌⊎◌, ℕ, ◌+◌, ◌≤◌, ◌<◌, get_or};
 ghost use Rattle.flat.specs.Codes.{growth_of};
 ghost use Rattle.flat.specs.Plan.{plan_of, Safe};

@@ -1,5 +1,6 @@
 // A round on the machine's arrays: one set moves into the other, one sheet lower, and on top the new sheet is laid.
 #![tactic(auto)]
+
 ghost use Rattle.std.specs.Prelude.{◌≡◌, true, ◌<◌, length};
 ghost use Rattle.shape.specs.Sizes.{in_range, detectors_of};
 ghost use Rattle.steps.specs.Models.{of_model};

@@ -1,5 +1,6 @@
 // Merging steps on the machine's arrays, up to rest or through a budget.
 #![tactic(auto)]
+
 ghost use Rattle.std.specs.Prelude.{◌≡◌, length};
 ghost use Rattle.flat.specs.Entries.{state_of, Long};
 ghost use Rattle.flat.specs.Plan.{plan_of, Safe};

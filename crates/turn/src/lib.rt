@@ -1,5 +1,6 @@
 // A round of the stream on the machine's arrays: received from one set into the other, and run.
 #![tactic(auto)]
+
 ghost use Rattle.std.specs.Prelude.{◌≡◌, ◌<◌, length};
 ghost use Rattle.shape.specs.Sizes.{detectors_of};
 ghost use Rattle.window.specs.Window.{max_next};

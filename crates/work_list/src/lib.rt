@@ -1,5 +1,6 @@
 // The first work list of a turn.
 #![tactic(auto)]
+
 ghost use Rattle.std.specs.Prelude.{◌≡◌, true, ℕ, get_or};
 ghost use Rattle.flat.specs.Codes.{growth_of};
 ghost use Rattle.flat.specs.Entries.{within};

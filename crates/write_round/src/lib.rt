@@ -1,5 +1,6 @@
 // What leaves with a round, from a window that stands in the machine's arrays: into two buffers, or as the round's record.
 #![tactic(auto)]
+
 ghost use Rattle.std.specs.Prelude.{◌≡◌, true, List, ℕ, ◌≤◌, length};
 ghost use Rattle.shape.specs.Sizes.{IsShape, in_range, detectors_of, layer_edges_of};
 ghost use Rattle.number.specs.Number.{written_buffered};

@@ -6,7 +6,7 @@ use Rattle.shape.specs.Choice.{if-true, if-false}
 use Rattle.unpack.proofs.edge_by.Goals as goal
 
 pub returns-then-fresh-eq0 : goal.returns-then-fresh-eq0
-returns-then-fresh-eq0 c = c.edge_code.ensures ∙ sym (if-true {A = ℕ} _ _ _ (eq-eqb _ _ c.if-fresh-eq0.true))
+returns-then-fresh-eq0 c = c.edge-code.ensures ∙ sym (if-true {A = ℕ} _ _ _ (eq-eqb _ _ c.if-fresh-eq0.true))
 
 pub returns : goal.returns
 returns c = sym (if-false {A = ℕ} _ _ _ (ne_eqb _ _ c.if-fresh-eq0.false))
