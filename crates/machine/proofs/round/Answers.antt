@@ -37,7 +37,7 @@ unpack-requires c = record { w_value = c.requires.w_value; filled = c.fill.ensur
 
 pub leave_round-requires : goal.leave_round-requires
 leave_round-requires c =
-    (ranged c.before.before.before.before.before.before.before.before.before.before.before.before.before.before.before.before.before.before.before.before, (c.sizes-z.ensures, (c.fill.ensures, c.requires.1.1.1.1)))
+    record { distance_value = ranged c.before.before.before.before.before.before.before.before.before.before.before.before.before.before.before.before.before.before.before.before; z_value = c.sizes-z.ensures; filled = c.fill.ensures; out_edges_len = c.requires.edges_len; out_escapes_len = c.requires.escapes_len }
 
 pub fall-requires : goal.fall-requires
 fall-requires c =

@@ -27,7 +27,7 @@ work_list-listed-requires c =
     let P = plan_of a.z a.table.now in
     let st = state_of a.old_nodes.now a.old_marks.now a.old_edges.now in
     let g = c.grow-opened in
-    let G = g.ensures in record { safe = safe; queue = G.1.1.queue; places = G.1.1.places; by_index = turned-inside P a.shape a.held.next _ c.second-second.ensures a.bytes.now a.held.rides a.held.quiet st _ c.fall.ensures.sinks a.z c.requires.ready.sizes c.requires.ready.held.0 c.requires.ready.held.1 c.requires.ready.held.2 c.requires.ready.held.3 g.new.nodes g.new.marks g.new.edges G.1.0 }
+    let G = g.ensures in record { safe = safe; queue = G.openings.queue; places = G.openings.places; by_index = turned-inside P a.shape a.held.next _ c.second-second.ensures a.bytes.now a.held.rides a.held.quiet st _ c.fall.ensures.sinks a.z c.requires.ready.sizes c.requires.ready.held.0 c.requires.ready.held.1 c.requires.ready.held.2 c.requires.ready.held.3 g.new.nodes g.new.marks g.new.edges G.grows }
 
 pub run-requires : goal.run-requires
 run-requires c =
@@ -36,7 +36,7 @@ run-requires c =
     let P = plan_of a.z a.table.now in
     let st = state_of a.old_nodes.now a.old_marks.now a.old_edges.now in
     let g = c.grow-opened in
-    let G = g.ensures in record { safe = safe; long = (G.0, c.requires.ready.scratch.words_long); queue = c.work_list-listed.ensures.queue; shown = turned-shown P a.shape a.held.next _ c.second-second.ensures a.bytes.now a.held.rides a.held.quiet st _ c.fall.ensures.sinks a.z c.requires.ready.sizes c.requires.ready.held.0 c.requires.ready.held.1 c.requires.ready.held.2 c.requires.ready.held.3 g.new.nodes g.new.marks g.new.edges G.1.0 safe.sheets _ _ _ G.1.1 _ _ _ c.work_list-listed.ensures }
+    let G = g.ensures in record { safe = safe; long = (G.long_2, c.requires.ready.scratch.words_long); queue = c.work_list-listed.ensures.queue; shown = turned-shown P a.shape a.held.next _ c.second-second.ensures a.bytes.now a.held.rides a.held.quiet st _ c.fall.ensures.sinks a.z c.requires.ready.sizes c.requires.ready.held.0 c.requires.ready.held.1 c.requires.ready.held.2 c.requires.ready.held.3 g.new.nodes g.new.marks g.new.edges G.grows safe.sheets _ _ _ G.openings _ _ _ c.work_list-listed.ensures }
 
 pub returns : goal.returns
 returns c =
@@ -49,5 +49,5 @@ returns c =
     record {
       long = c.run.ensures.long;
       scratch = record { lists-long = c.run.ensures.lists-long; empty = c.run.ensures.empty; words_long = c.run.ensures.words_long };
-      turns = λ w e n H. turned P a.shape a.held.next _ c.second-second.ensures a.bytes.now a.held.rides a.held.quiet st _ c.fall.ensures.sinks a.z c.requires.ready.sizes w e n H g.new.nodes g.new.marks g.new.edges G.1.0 safe.sheets _ _ _ G.1.1 _ _ _ c.work_list-listed.ensures _ _ _ c.run.ensures.ended;
+      turns = λ w e n H. turned P a.shape a.held.next _ c.second-second.ensures a.bytes.now a.held.rides a.held.quiet st _ c.fall.ensures.sinks a.z c.requires.ready.sizes w e n H g.new.nodes g.new.marks g.new.edges G.grows safe.sheets _ _ _ G.openings _ _ _ c.work_list-listed.ensures _ _ _ c.run.ensures.ended;
     }
