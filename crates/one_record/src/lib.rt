@@ -1,5 +1,6 @@
 // One record of the decoding, on the machine's arrays: the round that is received next, run, and its record written.
 #![tactic(auto)]
+
 ghost use Rattle.std.specs.Prelude.{◌≡◌, ◌≤◌, length};
 ghost use Rattle.shape.specs.Sizes.{IsShape};
 ghost use Rattle.steps.specs.Models.{of_model};

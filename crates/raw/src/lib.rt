@@ -1,5 +1,6 @@
 // Receiving a round of raw measurements.
 #![tactic(auto)]
+
 ghost use Rattle.std.specs.Prelude.{◌≡◌, true, ◌<◌, ◌≤◌, length};
 ghost use Rattle.shape.specs.Sizes.{detectors_of, layer_edges_of, max_detectors};
 ghost use Rattle.steps.specs.Models.{of_model};

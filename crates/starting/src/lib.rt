@@ -1,5 +1,6 @@
 // The machine's arrays before the first round: a fresh window's marks.
 #![tactic(auto)]
+
 ghost use Rattle.std.specs.Prelude.{◌≡◌, get_or};
 ghost use Rattle.flat.specs.Stored.{stored};
 
