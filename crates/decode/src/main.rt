@@ -5,51 +5,84 @@
 //   spent      in the next round; the header and the finished rounds are written. No round ends spent (crates/rests): it does not appear
 //   long       more than 65,536 bytes can be read; nothing is written
 //   unread     a read failed; nothing is written
-//   unwritten  a write failed, or the close; what is written may be cut at any byte
+//   unwritten  a write failed, or the file that took the result cannot keep it; what is written may be cut at any byte
 // Its status is 0 also then. A signal that ends it, as by default where nobody reads the result or a limit on a file's size leaves no room
 // for its next byte, leaves no line and another status. Where standard error cannot be written, nothing can be told.
+#![tactic(auto)]
+
 use decoding::Ending;
-use libc::{SEEK_CUR, STDERR_FILENO, STDIN_FILENO, STDOUT_FILENO};
 use number::Wrote;
 use record::HeaderRead;
 use refusal::Refusal;
 use shape::{MAX_DISTANCE, MAX_HEIGHT};
+use std::fs;
+use std::fs::{OpenFile, OpenOptions};
+use std::io::{ErrorKind, Read};
+use std::rt::Files;
 use window::Window;
 
+// Standard output, by its name on Linux.
+const RESULT: &str = "/proc/self/fd/1";
+
 // What was read: how many bytes, or that a read failed.
-#[derive(Drop)]
+#[derive(Clone, Copy)]
 enum Input {
     Bytes(usize),
     Unread,
 }
 
-fn say_refused(f: Refusal) {
-    io::write_all(STDERR_FILENO, b"refused ");
-    io::print_decimal(STDERR_FILENO, refusal::number(f) as u64);
-    io::write_all(STDERR_FILENO, b"\n");
+// Says a line on standard error. If that fails, nothing can be told.
+fn say_line(rt: &impl Eprint, line: &str) {
+    let _ = rt.eprintln(line);
 }
 
-fn say(ending: Ending) {
+fn say_refused(rt: &impl Eprint, f: Refusal) {
+    let number = refusal::number(f);
+    let _ = eprintln!(rt; "refused {number}");
+}
+
+fn say(rt: &impl Eprint, ending: Ending) {
     match ending {
         Ending::Finished => {}
-        Ending::Spent => {
-            io::write_all(STDERR_FILENO, b"spent\n");
-        }
-        Ending::Refused(f) => say_refused(f),
+        Ending::Spent => say_line(rt, "spent"),
+        Ending::Refused(f) => say_refused(rt, f),
     }
 }
 
-fn say_unwritten() {
-    io::write_all(STDERR_FILENO, b"unwritten\n");
+fn say_unwritten(rt: &impl Eprint) {
+    say_line(rt, "unwritten");
 }
 
-// Closes the result, since a file system may tell only then that bytes are lost, and says what stopped the decoding.
-fn conclude(ending: Ending) {
-    if libc::close(STDOUT_FILENO) < 0 {
-        say_unwritten();
+// Whether the result goes to a file. A pipe, a terminal or a socket is none.
+fn is_file(rt: &impl Files) -> bool {
+    match fs::metadata(rt, RESULT) {
+        Ok(about) => about.is_file(),
+        Err(_) => false,
+    }
+}
+
+// Whether a file that took the result cannot keep it: a file system, as one over the network, may tell only now that bytes are lost. A file
+// that has no such call answers so, and one that cannot be opened once more is not asked.
+fn is_lost(rt: &impl Files) -> bool {
+    if !is_file(rt) {
+        return false;
+    }
+    let Ok(file) = OpenOptions::new().write(true).open(rt, RESULT) else {
+        return false;
+    };
+    match file.sync_all() {
+        Ok(()) => false,
+        Err(e) => e.kind() != ErrorKind::InvalidInput,
+    }
+}
+
+// Asks a file to keep the result, since std has no close that answers, and says what stopped the decoding.
+fn conclude(rt: &(impl Eprint + Files), ending: Ending) {
+    if is_lost(rt) {
+        say_unwritten(rt);
         return;
     }
-    say(ending);
+    say(rt, ending);
 }
 
 // Whether the next record has no room behind the others; an empty buffer has room for any (decoding/specs/Lengths.antt).
@@ -62,34 +95,43 @@ fn is_full(ending: Ending) -> bool {
 }
 
 // Whether all the bytes are written. A file that takes only a part is full or limited, and at a limit the next write would end the program
-// before its line; a pipe or a terminal, where no offset can be told, may take the rest.
-fn write_out(bytes: &[u8]) -> bool {
+// before its line; a pipe or a terminal may take the rest.
+fn write_out(rt: &(impl Print + Files), bytes: &[u8]) -> bool {
     if bytes.len() == 0 {
         return true;
     }
-    let put = io::count(libc::write(STDOUT_FILENO, bytes), bytes);
+    let Ok(put) = rt.write_some(bytes) else {
+        return false;
+    };
     if put == bytes.len() {
         return true;
     }
     if put == 0 {
         return false;
     }
-    if libc::lseek(STDOUT_FILENO, 0, SEEK_CUR) >= 0 {
+    if is_file(rt) {
         return false;
     }
-    io::write_all(STDOUT_FILENO, &bytes[put..])
+    rt.write_all(&bytes[put..]).is_ok()
 }
 
 // Writes out the buffer's front; whether all of it is written.
-fn write_front(out: &[u8], end: usize) -> bool {
+fn write_front(rt: &(impl Print + Files), out: &[u8], end: usize) -> bool {
     if out.len() < end {
         return false;
     }
-    write_out(&out[..end])
+    write_out(rt, &out[..end])
 }
 
 // The rounds from an offset on, behind what stands in the buffer: it is written out whenever it is full.
-fn decode_rounds(start: Window, src: &[u8], from: usize, out: &mut [u8], behind: usize) {
+fn decode_rounds(
+    rt: &(impl Print + Eprint + Files),
+    start: Window,
+    src: &[u8],
+    from: usize,
+    out: &mut [u8],
+    behind: usize,
+) {
     let mut window = start;
     let mut at = from;
     let mut to = behind;
@@ -99,23 +141,23 @@ fn decode_rounds(start: Window, src: &[u8], from: usize, out: &mut [u8], behind:
         window = r.window;
         at = r.at;
         let end = r.to;
-        if !write_front(out, end) {
-            say_unwritten();
+        if !write_front(rt, out, end) {
+            say_unwritten(rt);
             return;
         }
         if !(is_full(ending) & (0 < end)) {
-            conclude(ending);
+            conclude(rt, ending);
             return;
         }
         to = 0;
     }
 }
 
-fn decode(src: &[u8], out: &mut [u8]) {
+fn decode(rt: &(impl Print + Eprint + Files), src: &[u8], out: &mut [u8]) {
     match record::read_header(src, 0) {
-        HeaderRead::Refused(f) => say_refused(f),
+        HeaderRead::Refused(f) => say_refused(rt, f),
         HeaderRead::Shape(shape, next) => match record::write_header(shape, out, 0) {
-            Wrote::Not(f) => say_refused(f),
+            Wrote::Not(f) => say_refused(rt, f),
             Wrote::To(to) => {
                 let fresh = fresh::fresh(
                     shape.height as u32,
@@ -125,21 +167,19 @@ fn decode(src: &[u8], out: &mut [u8]) {
                     MAX_DISTANCE as u32,
                 );
                 let window = fresh.window;
-                decode_rounds(window, src, next, out, to);
+                decode_rounds(rt, window, src, next, out, to);
             }
         },
     }
 }
 
 // Reads until the buffer is full or the input ends. A read may give fewer bytes than it has room for, and none at the end.
-fn read_input(input: &mut [u8]) -> Input {
+fn read_input(source: &mut impl Read, input: &mut [u8]) -> Input {
     let mut n = 0;
     while n < input.len() {
-        let got = libc::read(STDIN_FILENO, &mut input[n..]);
-        if got < 0 {
+        let Ok(more) = source.read(&mut input[n..]) else {
             return Input::Unread;
-        }
-        let more = io::count(got, &input[n..]);
+        };
         if more == 0 {
             return Input::Bytes(n);
         }
@@ -149,19 +189,17 @@ fn read_input(input: &mut [u8]) -> Input {
 }
 
 // The buffer has room for one byte more than is decoded, which tells that the input is long.
-fn main() {
+fn main(rt: HostRuntime) {
     let mut input = [0u8; 65537];
-    let mut out = io::large_buffer();
-    match read_input(&mut input) {
-        Input::Unread => {
-            io::write_all(STDERR_FILENO, b"unread\n");
-        }
+    let mut out = [0u8; 65536];
+    match read_input(&mut rt.stdin(), &mut input) {
+        Input::Unread => say_line(&rt, "unread"),
         Input::Bytes(n) => {
             if n > 65536 {
-                io::write_all(STDERR_FILENO, b"long\n");
+                say_line(&rt, "long");
                 return;
             }
-            decode(&input[..n], &mut out);
+            decode(&rt, &input[..n], &mut out);
         }
     }
 }

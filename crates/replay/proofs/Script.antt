@@ -1,5 +1,5 @@
 -- The bytes of a script. Assumes nothing.
-use Prim.Native.Nat.{ℕ}
+use Rattle.std.proofs.Common.{ℕ}
 
 abbrev pub script_bytes : ℕ
 script_bytes = 65536

@@ -22,21 +22,23 @@
 // A line is written for each call and each edit: its name; `done`, `busy`, `rest`, of a run `rest` or `spent` and the count of steps, or
 // `refused` and the number; of a round, raw or not, the two buffers after the call, a digit a byte (`?` from 10 on); a digest of all the
 // window but the last measured sheet; and that sheet's bits as a binary number, the first one highest, modulo a prime, in decimal.
+#![tactic(auto)]
+
 ghost use Rattle.std.specs.Prelude.{◌≡◌, ◌≤◌, length};
 
 use calls::{Merged, Outcome};
-use libc::STDOUT_FILENO;
 use shape::{MAX_DETECTORS, MAX_NODES, Shape};
+use std::io;
 use window::{Called, Given, MAX_SLOTS, Mark, Node, Stage, Window};
 
-// The bytes of the library's large buffer, which holds the script.
+// The bytes of the buffer that holds the script.
 const SCRIPT_BYTES: usize = 65536;
 
 // The offset of its last byte.
 const LAST: usize = SCRIPT_BYTES - 1;
 
 // A number of the script, and the offset behind it.
-#[derive(Drop)]
+#[derive(Clone, Copy)]
 struct Read {
     value: u32,
     at: usize,
@@ -85,38 +87,31 @@ fn mix_node(digest: u64, node: Node) -> u64 {
     mix(d, mark_code(mark))
 }
 
-fn mix_nodes(digest: u64, w: Window) -> u64 {
+fn mix_nodes(digest: u64, nodes: &[Node; MAX_NODES]) -> u64 {
     let mut sum = digest;
-    let mut g: usize = 0;
-    while g < MAX_NODES {
-        let node = w.nodes[g];
-        sum = mix_node(sum, node);
-        g += 1;
+    for node in nodes {
+        sum = mix_node(sum, *node);
     }
     sum
 }
 
 fn mix_growth(digest: u64, growth: &[u8; MAX_SLOTS]) -> u64 {
     let mut sum = digest;
-    let mut e: usize = 0;
-    while e < MAX_SLOTS {
-        sum = mix(sum, wide(growth[e]));
-        e += 1;
+    for halves in growth {
+        sum = mix(sum, wide(*halves));
     }
     sum
 }
 
 fn mix_correction(digest: u64, correction: &[bool; MAX_SLOTS]) -> u64 {
     let mut sum = digest;
-    let mut e: usize = 0;
-    while e < MAX_SLOTS {
-        sum = mix(sum, one(correction[e]));
-        e += 1;
+    for bit in correction {
+        sum = mix(sum, one(*bit));
     }
     sum
 }
 
-fn digest(w: Window) -> u64 {
+fn digest(w: &Window) -> u64 {
     let shape = w.shape;
     let stage = w.stage;
     let a = mix(0, wide(shape.height));
@@ -124,7 +119,7 @@ fn digest(w: Window) -> u64 {
     let c = mix(b, wide(shape.model));
     let d = mix(c, stage_code(stage));
     let e = mix(d, w.next as u64);
-    let f = mix_nodes(e, w);
+    let f = mix_nodes(e, &w.nodes);
     let g = mix_growth(f, &w.growth);
     mix_correction(g, &w.correction)
 }
@@ -136,75 +131,69 @@ fn append(sum: u64, set: bool) -> u64 {
 
 fn fold_measured(measured: &[bool; MAX_DETECTORS]) -> u64 {
     let mut sum: u64 = 0;
-    let mut i: usize = 0;
-    while i < MAX_DETECTORS {
-        sum = append(sum, measured[i]);
-        i += 1;
+    for bit in measured {
+        sum = append(sum, *bit);
     }
     sum
 }
 
-// WHAT IS WRITTEN
+// WHAT IS WRITTEN. Where standard output cannot be written, nothing is told.
 
-fn say(text: &[u8]) {
-    io::write_all(STDOUT_FILENO, text);
+fn say(rt: &impl Print, text: &[u8]) {
+    let _ = rt.write_all(text);
 }
 
-fn say_refused(number: u8) {
-    say(b"refused ");
-    io::print_decimal(STDOUT_FILENO, wide(number));
-    say(b" ");
+fn say_refused(rt: &impl Print, number: u8) {
+    let _ = print!(rt; "refused {number} ");
 }
 
-fn say_called(answer: Called) {
+fn say_called(rt: &impl Print, answer: Called) {
     match answer {
-        Called::Done => say(b"done "),
-        Called::Refused(f) => say_refused(refusal::number(f)),
+        Called::Done => say(rt, b"done "),
+        Called::Refused(f) => say_refused(rt, refusal::number(f)),
     }
 }
 
 // Whether some node was busy.
-fn say_merged(answer: Merged) -> bool {
+fn say_merged(rt: &impl Print, answer: Merged) -> bool {
     match answer {
         Merged::Busy => {
-            say(b"busy ");
+            say(rt, b"busy ");
             true
         }
         Merged::Rest => {
-            say(b"rest ");
+            say(rt, b"rest ");
             false
         }
         Merged::Refused(f) => {
-            say_refused(refusal::number(f));
+            say_refused(rt, refusal::number(f));
             false
         }
     }
 }
 
-fn say_count(count: u32) {
-    io::print_decimal(STDOUT_FILENO, count as u64);
-    say(b" ");
+fn say_count(rt: &impl Print, count: u32) {
+    let _ = print!(rt; "{count} ");
 }
 
-fn say_outcome(answer: Outcome) {
+fn say_outcome(rt: &impl Print, answer: Outcome) {
     match answer {
         Outcome::Rest(n) => {
-            say(b"rest ");
-            say_count(n)
+            say(rt, b"rest ");
+            say_count(rt, n)
         }
         Outcome::Spent(n) => {
-            say(b"spent ");
-            say_count(n)
+            say(rt, b"spent ");
+            say_count(rt, n)
         }
-        Outcome::Refused(f) => say_refused(refusal::number(f)),
+        Outcome::Refused(f) => say_refused(rt, refusal::number(f)),
     }
 }
 
-fn say_window(w: Window) {
-    io::print_hex(STDOUT_FILENO, digest(w), 14);
-    say(b" ");
-    io::print_decimal(STDOUT_FILENO, fold_measured(&w.measured));
-    say(b"\n");
+fn say_window(rt: &impl Print, w: &Window) {
+    let digest = digest(w);
+    let measured = fold_measured(&w.measured);
+    let _ = println!(rt; "{digest:014x} {measured}");
 }
 
 fn digit(x: u8) -> u8 {
@@ -215,14 +204,12 @@ fn digit(x: u8) -> u8 {
 }
 
 // Turns a buffer into digits, and writes it.
-fn say_buffer(buffer: &mut [u8]) {
-    let mut i: usize = 0;
-    while i < buffer.len() {
-        buffer[i] = digit(buffer[i]);
-        i += 1;
+fn say_buffer(rt: &impl Print, buffer: &mut [u8]) {
+    for x in buffer.iter_mut() {
+        *x = digit(*x);
     }
-    say(buffer);
-    say(b" ");
+    say(rt, buffer);
+    say(rt, b" ");
 }
 
 // THE SCRIPT
@@ -240,26 +227,22 @@ fn value_of(x: u8) -> u8 {
 
 // The first digit from an offset on.
 fn digit_from(script: &[u8; SCRIPT_BYTES], from: usize) -> usize {
-    let mut i = from;
-    while i < SCRIPT_BYTES {
+    for i in from..SCRIPT_BYTES {
         if is_digit(script[i]) {
             return i;
         }
-        i += 1;
     }
-    i
+    from.max(SCRIPT_BYTES)
 }
 
 // The first byte from an offset on that ends a line.
 fn line_end(script: &[u8; SCRIPT_BYTES], from: usize) -> usize {
-    let mut i = from;
-    while i < SCRIPT_BYTES {
+    for i in from..SCRIPT_BYTES {
         if script[i] == b'\n' {
             return i;
         }
-        i += 1;
     }
-    i
+    from.max(SCRIPT_BYTES)
 }
 
 // One digit more, modulo 2^32.
@@ -273,9 +256,9 @@ fn narrow(value: u64) -> u32 {
 
 // The next number from an offset on.
 fn number(script: &[u8; SCRIPT_BYTES], from: usize) -> Read {
-    let mut i = digit_from(script, from);
+    let first = digit_from(script, from);
     let mut value: u64 = 0;
-    while i < SCRIPT_BYTES {
+    for i in first..SCRIPT_BYTES {
         let x = script[i];
         if !is_digit(x) {
             return Read {
@@ -284,11 +267,10 @@ fn number(script: &[u8; SCRIPT_BYTES], from: usize) -> Read {
             };
         }
         value = shift(value, x);
-        i += 1;
     }
     Read {
         value: narrow(value),
-        at: i,
+        at: first.max(SCRIPT_BYTES),
     }
 }
 
@@ -299,9 +281,8 @@ fn digits(script: &[u8; SCRIPT_BYTES], from: usize, out: &mut [u8]) -> usize
     if SCRIPT_BYTES <= from {
         return 0;
     }
-    let mut i = from + 1;
-    let mut n: usize = 0;
-    while n < 256 {
+    for n in 0..256 {
+        let i = from + 1 + n;
         if SCRIPT_BYTES <= i {
             return n;
         }
@@ -313,10 +294,8 @@ fn digits(script: &[u8; SCRIPT_BYTES], from: usize, out: &mut [u8]) -> usize
             return n;
         }
         out[n] = value_of(x);
-        i += 1;
-        n += 1;
     }
-    n
+    256
 }
 
 fn byte(x: u32) -> u8 {
@@ -325,7 +304,7 @@ fn byte(x: u32) -> u8 {
 
 // THE CALLS
 
-fn open(script: &[u8; SCRIPT_BYTES], from: usize) -> Window {
+fn open(rt: &impl Print, script: &[u8; SCRIPT_BYTES], from: usize) -> Window {
     let height = number(script, from);
     let distance = number(script, height.at);
     let model = number(script, distance.at);
@@ -339,27 +318,41 @@ fn open(script: &[u8; SCRIPT_BYTES], from: usize) -> Window {
         largest_distance.value,
     );
     let answer = given.answer;
-    say(b"open ");
-    say_called(answer);
+    say(rt, b"open ");
+    say_called(rt, answer);
     given.window
 }
 
 // Says which round call it is, and makes it.
-fn either_round(w: Window, raw: bool, bytes: &[u8], edges: &mut [u8], escapes: &mut [u8]) -> Given {
+fn either_round(
+    rt: &impl Print,
+    w: Window,
+    raw: bool,
+    bytes: &[u8],
+    edges: &mut [u8],
+    escapes: &mut [u8],
+) -> Given {
     if raw {
-        say(b"raw ");
+        say(rt, b"raw ");
         return calls::raw_round(w, bytes, edges, escapes);
     }
-    say(b"round ");
+    say(rt, b"round ");
     calls::round(w, bytes, edges, escapes)
 }
 
-fn receive(w: Window, raw: bool, bytes: &[u8], edges: &mut [u8], escapes: &mut [u8]) -> Window {
-    let given = either_round(w, raw, bytes, edges, escapes);
+fn receive(
+    rt: &impl Print,
+    w: Window,
+    raw: bool,
+    bytes: &[u8],
+    edges: &mut [u8],
+    escapes: &mut [u8],
+) -> Window {
+    let given = either_round(rt, w, raw, bytes, edges, escapes);
     let answer = given.answer;
-    say_called(answer);
-    say_buffer(edges);
-    say_buffer(escapes);
+    say_called(rt, answer);
+    say_buffer(rt, edges);
+    say_buffer(rt, escapes);
     given.window
 }
 
@@ -376,17 +369,24 @@ fn escape_marks() -> [u8; 256]
     [7; 256]
 }
 
-fn round(script: &[u8; SCRIPT_BYTES], from: usize, raw: bool, w: Window) -> Window {
+fn round(
+    rt: &impl Print,
+    script: &[u8; SCRIPT_BYTES],
+    from: usize,
+    raw: bool,
+    w: Window,
+) -> Window {
     let edges = number(script, from);
     let escapes = number(script, edges.at);
     let mut bytes = escape_marks();
     let got = digits(script, escapes.at, &mut bytes);
     let mut edge_buffer = edge_marks();
     let mut escape_buffer = escape_marks();
-    let n = io::count(got as isize, &bytes);
-    let e = io::count(edges.value as isize, &edge_buffer);
-    let s = io::count(escapes.value as isize, &escape_buffer);
+    let n = got.min(bytes.len());
+    let e = (edges.value as usize).min(edge_buffer.len());
+    let s = (escapes.value as usize).min(escape_buffer.len());
     receive(
+        rt,
         w,
         raw,
         &bytes[..n],
@@ -395,38 +395,36 @@ fn round(script: &[u8; SCRIPT_BYTES], from: usize, raw: bool, w: Window) -> Wind
     )
 }
 
-fn grow(w: Window) -> Window {
+fn grow(rt: &impl Print, w: Window) -> Window {
     let given = calls::grow(w);
     let answer = given.answer;
-    say(b"grow ");
-    say_called(answer);
+    say(rt, b"grow ");
+    say_called(rt, answer);
     given.window
 }
 
-fn merging(w: Window, most: u32) -> Window {
+fn merging(rt: &impl Print, w: Window, most: u32) -> Window {
     let mut window = w;
-    let mut left = most;
-    while 0 < left {
+    for made in 0..most {
         let stepped = calls::merging(window);
         let answer = stepped.answer;
         window = stepped.window;
-        say(b"merging ");
-        if !say_merged(answer) {
+        say(rt, b"merging ");
+        if !say_merged(rt, answer) {
             return window;
         }
-        left -= 1;
-        if 0 < left {
-            say_window(window);
+        if made + 1 < most {
+            say_window(rt, &window);
         }
     }
     window
 }
 
-fn run(w: Window, budget: u32) -> Window {
+fn run(rt: &impl Print, w: Window, budget: u32) -> Window {
     let concluded = calls::run(w, budget);
     let answer = concluded.answer;
-    say(b"run ");
-    say_outcome(answer);
+    say(rt, b"run ");
+    say_outcome(rt, answer);
     concluded.window
 }
 
@@ -537,11 +535,17 @@ fn set_measured(w: Window, i: usize, bit: bool) -> Window {
 }
 
 // An edit by its letter.
-fn edit(script: &[u8; SCRIPT_BYTES], from: usize, letter: u8, w: Window) -> Window {
+fn edit(
+    rt: &impl Print,
+    script: &[u8; SCRIPT_BYTES],
+    from: usize,
+    letter: u8,
+    w: Window,
+) -> Window {
     let first = number(script, from);
     let second = number(script, first.at);
     let i = first.value as usize;
-    say(b"edit ");
+    say(rt, b"edit ");
     match letter {
         b'd' => set_shape(w, shape_by(script, from)),
         b's' => set_stage(w, first.value),
@@ -562,53 +566,77 @@ fn second(script: &[u8; SCRIPT_BYTES], from: usize) -> u8 {
 }
 
 // The command of a letter, and the window after it.
-fn command(script: &[u8; SCRIPT_BYTES], from: usize, letter: u8, w: Window) -> Window {
+fn command(
+    rt: &impl Print,
+    script: &[u8; SCRIPT_BYTES],
+    from: usize,
+    letter: u8,
+    w: Window,
+) -> Window {
     match letter {
-        b'o' => open(script, from),
+        b'o' => open(rt, script, from),
         b'r' => {
             let kind = second(script, from);
             if kind == b'u' {
                 let budget = number(script, from);
-                return run(w, budget.value);
+                return run(rt, w, budget.value);
             }
-            round(script, from, kind == b'a', w)
+            round(rt, script, from, kind == b'a', w)
         }
-        b'g' => grow(w),
+        b'g' => grow(rt, w),
         b'm' => {
             let most = number(script, from);
-            merging(w, most.value)
+            merging(rt, w, most.value)
         }
-        _ => edit(script, from, letter, w),
+        _ => edit(rt, script, from, letter, w),
     }
 }
 
 // Writes a line as it stands.
-fn echo(script: &[u8; SCRIPT_BYTES], from: usize) {
-    let mut i = from;
-    while i < SCRIPT_BYTES {
+fn echo(rt: &impl Print, script: &[u8; SCRIPT_BYTES], from: usize) {
+    for i in from..SCRIPT_BYTES {
         let x = [script[i]];
-        say(&x);
+        say(rt, &x);
         if script[i] == b'\n' {
             return;
         }
-        i += 1;
     }
 }
 
 // The line at an offset, and the window after it.
-fn line(script: &[u8; SCRIPT_BYTES], from: usize, letter: u8, w: Window) -> Window {
+fn line(
+    rt: &impl Print,
+    script: &[u8; SCRIPT_BYTES],
+    from: usize,
+    letter: u8,
+    w: Window,
+) -> Window {
     if letter == b'#' {
-        echo(script, from);
+        echo(rt, script, from);
         return w;
     }
-    let window = command(script, from, letter, w);
-    say_window(window);
+    let window = command(rt, script, from, letter, w);
+    say_window(rt, &window);
     window
 }
 
-fn main() {
-    let mut script = io::large_buffer();
-    io::read_full(0, &mut script);
+// Reads until the buffer is full, the input ends or a read fails. A read may give fewer bytes than it has room for, and none at the end.
+fn read_script(source: &mut impl io::Read, script: &mut [u8]) {
+    let mut n = 0;
+    while n < script.len() {
+        let Ok(more) = source.read(&mut script[n..]) else {
+            return;
+        };
+        if more == 0 {
+            return;
+        }
+        n += more;
+    }
+}
+
+fn main(rt: HostRuntime) {
+    let mut script = [0u8; SCRIPT_BYTES];
+    read_script(&mut rt.stdin(), &mut script);
     let given = fresh::fresh(1, 2, 0, 1, 2);
     let mut window = given.window;
     let mut at: usize = 0;
@@ -617,7 +645,7 @@ fn main() {
         if letter == 0 {
             return;
         }
-        window = line(&script, at, letter, window);
+        window = line(&rt, &script, at, letter, window);
         let end = line_end(&script, at);
         if end < at {
             return;
