@@ -294,18 +294,17 @@ fn result_without_a_reader() {
     assert_eq!(output.status.signal(), Some(SIGPIPE));
 }
 
-/// A file system that tells only at the close that bytes are lost, as one over the network may.
+/// A file system that tells only where a file is to keep its bytes that some are lost, as one over the network may.
 #[test]
 fn result_lost_at_the_close() {
-    let [source, library] = ["close.c", "close.so"].map(|name| Path::new(env!("CARGO_TARGET_TMPDIR")).join(name));
-    write(&source, "int close(int descriptor) { return descriptor == 1 ? -1 : 0; }\n").expect("a file can be written");
+    let [source, library] = ["fsync.c", "fsync.so"].map(|name| Path::new(env!("CARGO_TARGET_TMPDIR")).join(name));
+    write(&source, "#include <errno.h>\nint fsync(int descriptor) { errno = EIO; return -1; }\n").expect("a file can be written");
     let built = Command::new("cc").args(["-shared", "-fPIC"]).arg(&source).arg("-o").arg(&library).status();
     assert!(built.expect("cc can be run").success());
     for input in [FIRST.to_vec(), vec![1, 3, 1, 1]] {
-        let mut command = program();
-        command.env("LD_PRELOAD", &library);
-        let result = decoding::program::<Window>(&input).stdout;
-        assert_eq!(written(ended(command, file_of(&input), Stdio::piped())), stopped(&result, "unwritten"));
+        let (left, output) = into_file(&format!("export LD_PRELOAD={}", library.display()), &input);
+        assert!(left == decoding::program::<Window>(&input).stdout);
+        assert_eq!(written(output), stopped(&[], "unwritten"));
     }
 }
 

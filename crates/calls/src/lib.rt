@@ -1,5 +1,6 @@
 // The calls on a window: each tests what document 01 says, in its order, and then does what its rule says. What is refused leaves everything as it was.
 #![tactic(auto)]
+
 ghost use Rattle.std.specs.Prelude.{◌≡◌};
 ghost use Rattle.refusal.specs.Answer.{itself};
 ghost use Rattle.steps.specs.Models.{of_model};

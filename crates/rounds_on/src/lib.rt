@@ -1,5 +1,6 @@
 // Round after round on the machine's arrays: each record is made from one set into the other.
 #![tactic(auto)]
+
 ghost use Rattle.shape.specs.Choice.{if};
 ghost use Rattle.decoding.specs.Answers.{line_of};
 ghost use Rattle.flat.specs.Entries.{state_of};
