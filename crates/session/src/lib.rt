@@ -1,5 +1,6 @@
 // Decoding an input stream into a result stream, on slices: round after round, and the whole stream. The machine's arrays are held here and lent.
 #![tactic(auto)]
+
 ghost use Rattle.std.specs.Prelude.{◌≡◌, true};
 ghost use Rattle.shape.specs.Sizes.{IsShape};
 ghost use Rattle.steps.specs.Models.{of_model};

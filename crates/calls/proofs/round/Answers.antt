@@ -12,7 +12,7 @@ returns-in-Refused c =
 
 pub round-requires : goal.round-requires
 round-requires c =
-    let a = c.args in let all = (asks a.w a.bytes.now a.edges.now a.escapes.now c.test_round-tested.result c.test_round-tested.ensures c.in_default.is).asked in record { w_value = all.0; stage_value = all.1; next_lt_max_next = all.2; bytes_len = all.3; edges_len = all.4; escapes_len = all.5 }
+    let a = c.args in let all = (asks a.w a.bytes.now a.edges.now a.escapes.now c.test_round-tested.result c.test_round-tested.ensures c.in_default.is).asked in record { w_value = all.0; stage_value = all.1.0; next_lt_max_next = all.1.1.0; bytes_len = all.1.1.1.0; edges_len = all.1.1.1.1.0; escapes_len = all.1.1.1.1.1 }
 
 pub returns : goal.returns
 unfolding round_call
