@@ -27,8 +27,9 @@ use Rattle.window.specs.declared.Window.{Window}
 use Rattle.closure.specs.Done.{accepted, staged}
 use Rattle.closure.specs.Run.{run-keeps}
 use Rattle.decoding.specs.Decoding.{budget, Turn, wrote, turn_at, record_at}
-use Rattle.decoding.specs.LawsTurn.{detectors, edges, committed-long, committed-bits, escaped-long, escaped-bits, turn-made}
-use Rattle.decoding.specs.LawsDecoding.{record-written}
+use Rattle.decoding.specs.LawsTurn.{detectors, edges}
+use Rattle.decoding.proofs.LawsTurn.{committed-long, committed-bits, escaped-long, escaped-bits, turn-made}
+use Rattle.decoding.proofs.LawsDecoding.{record-written}
 
 -- WHAT A RUN COUNTS, and where it says that it came to rest
 

@@ -19,7 +19,8 @@ use Rattle.window.specs.Fresh.{fresh_window}
 use Rattle.window.specs.Calls.{round_tests, state_tests, round_call, run_call}
 use Rattle.window.specs.declared.Window.{Window}
 use Rattle.decoding.specs.Decoding.{Line, finished, turned_back, spent, Turn, Recorded, wrote, stopped, recorded, turn_at, last_test, record_tests, record_at, Rounds, stop, after, rounds_from, nothing_written, Decoded, decoded}
-use Rattle.decoding.specs.LawsTurn.{detectors, on_ran, on_round, on_bytes}
+use Rattle.decoding.specs.LawsTurn.{detectors}
+use Rattle.decoding.proofs.LawsTurn.{on_ran, on_round, on_bytes}
 use Rattle.decoding.specs.LawsDecoding.{on_header}
 use Rattle.reply.specs.Reply.{concluded}
 

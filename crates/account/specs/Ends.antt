@@ -9,13 +9,14 @@ use Rattle.list.specs.Trip.{list-no-end}
 use Rattle.shape.specs.Choice.{if, order}
 use Rattle.steps.specs.Steps.{Table}
 use Rattle.record.specs.Records.{unless_ended, round_at, result}
-use Rattle.record.specs.Laws.{before-end}
+use Rattle.record.proofs.Laws.{before-end}
 use Rattle.window.specs.Window.{is_rest}
 use Rattle.window.specs.Run.{ran}
 use Rattle.window.specs.Calls.{round_tests, state_tests, round_call, run_call}
 use Rattle.window.specs.declared.Window.{Window}
 use Rattle.decoding.specs.Decoding.{finished, turned_back, spent, budget, Turn, wrote, stopped, record_written, recorded, turn_at, last_test, record_tests, record_at}
-use Rattle.decoding.specs.LawsTurn.{detectors, edges, on_ran, on_round, on_bytes, turn-steps}
+use Rattle.decoding.specs.LawsTurn.{detectors, edges}
+use Rattle.decoding.proofs.LawsTurn.{on_ran, on_round, on_bytes, turn-steps}
 use Rattle.decoding.specs.LawsDecoding.{record-tested}
 
 tests-no-end : {A : Type 0} (tests : List (Bool × ℕ)) (a : Answer A) → NoEnd a → NoEnd (unless tests a)

@@ -14,7 +14,7 @@ use Rattle.shape.specs.declared.Shape.{Shape}
 use Rattle.record.specs.Records.{header_at}
 use Rattle.trip.specs.Streams.{Stream, all_bytes, records_at, stream_of, round_of, input_of}
 use Rattle.trip.specs.Fits.{Each, RoundFits}
-use Rattle.trip.specs.Kinds.{round-kind}
+use Rattle.trip.proofs.RoundKinds.{round-kind}
 use Rattle.trip.specs.Trip.{on_more, on_record, on_records, on_header}
 use Rattle.account.specs.Account.{first_of}
 

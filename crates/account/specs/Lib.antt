@@ -6,13 +6,10 @@ pub mod Account
 pub mod ByCalls
 pub mod Ends
 pub mod Follow
-pub mod Resumed
 pub mod Front
 -- the law's numbers in the streams
 pub mod Sums
-pub mod Balance
 -- the proof
-pub mod Theorem
 -- status 0 of a decoding
 pub mod Codes
 -- what a caller is left with; document 01's first session, and one of model 1

@@ -1,23 +1,14 @@
 -- THE ACCOUNT'S TERMS ARE MET, by value, in document 01's first session: the defect that its first round brings, in round 3, is the one that the
 -- edge in the fourth result ends at. One result earlier nothing accounts for it. And in a session of model 1: the edge in its fourth result is a
 -- diagonal, which ends at both its defects, in rounds 3 and 4. Assumes nothing.
-use Rattle.std.specs.Prelude.{ℕ, ◌≡◌, refl, true, false, List, [], ◌∷◌}
-use Rattle.number.specs.Number as number
-use Rattle.list.specs.Sheet as list
-use Rattle.steps.specs.Ranks as ranks
-use Rattle.steps.specs.Steps as steps
-use Rattle.steps.specs.Models as models
-use Rattle.layers.specs.Layers as layers
+use Rattle.std.specs.Prelude.{ℕ, ◌≡◌, true, false, List, [], ◌∷◌}
 use Rattle.shape.specs.declared.Shape.{Shape}
-use Rattle.record.specs.Records as records
 use Rattle.record.specs.Records.{Result}
-use Rattle.trip.specs.Streams as streams
 use Rattle.trip.specs.Streams.{Stream, input_bytes, result_bytes}
-use Rattle.law.specs.Law as law
 use Rattle.law.specs.Law.{Spot}
 use Rattle.law.specs.Witness.{spot}
 use Rattle.decoding.specs.Decoding.{decoded}
-use Rattle.decoding.specs.Printed.{gives, printed}
+use Rattle.decoding.specs.Printed.{gives}
 use Rattle.account.specs.Account.{received_in, ending_in, escaped_in}
 
 abbrev shape : Shape
@@ -56,11 +47,6 @@ pub record First : Type 0 where
   pub no-edge : ending_in escaping spot ≡ 0
   pub escapes : escaped_in escaping spot ≡ true
 
-pub first : First
-unfolding list.ones list.skips list.listed number.written number.groups records.header records.result streams.all_bytes streams.bytes_of steps.base models.of_model steps.across steps.naming ranks.rank ranks.pick layers.spans layers.edge_of law.sum
-first =
-    record { decodes = printed.first; received = refl; committed = refl; kept = refl; not_yet = refl; nor-escaped = refl; no-edge = refl; escapes = refl }
-
 -- MODEL 1: 2 by 3, a defect at the first detector and, a round later, one at the last
 
 abbrev shape1 : Shape
@@ -93,7 +79,3 @@ pub record Diagonal : Type 0 where
   pub received-next : received_in input1 upper ≡ 1
   pub committed : ending_in output1 lower ≡ 1
   pub committed-next : ending_in output1 upper ≡ 1
-
-pub diagonal : Diagonal
-unfolding list.ones list.skips list.listed number.written number.groups records.header records.result streams.all_bytes streams.bytes_of steps.base models.circuit models.of_model steps.across steps.naming ranks.rank ranks.pick layers.spans layers.edge_of law.sum
-diagonal = record { decodes = printed.diagonal; received = refl; received-next = refl; committed = refl; committed-next = refl }

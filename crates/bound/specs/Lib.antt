@@ -16,8 +16,6 @@ pub mod Runs
 pub mod Phases
 -- windows that calls reach, the steps of a stage over the calls that make them, and the proof
 pub mod Reachable
-pub mod Stages
-pub mod Theorem
 -- from a node to its root
 pub mod ToRoot
 -- steps by value, and a window that no calls reach

@@ -1,9 +1,8 @@
 -- THE STEPS OF A MERGING STAGE BY VALUE, 1 by 2 of model 0: N is 9. Assumes nothing.
-use Rattle.std.specs.Prelude.{ℕ, ◌≡◌, refl, List, [], ◌∷◌}
+use Rattle.std.specs.Prelude.{ℕ, ◌≡◌, List, [], ◌∷◌}
 use Rattle.steps.specs.Steps.{base}
-use Rattle.window.specs.Calls.{grow_call, merging_call}
 use Rattle.law.specs.Law.{Call, grow, merging, run}
-use Rattle.law.specs.Witness.{takes, none, opened}
+use Rattle.law.specs.Witness.{takes, none}
 use Rattle.bound.specs.Bound.{step_bound, stage_steps}
 
 -- steps of the last stage
@@ -19,7 +18,3 @@ pub record StepsMet : Type 0 where
   -- over whichever calls, refused ones among them: here a run that is spent, a step, a round in the wrong stage and a run
   pub by-calls : counted (takes 1 ∷ run 0 ∷ merging ∷ takes 1 ∷ run 40 ∷ []) ≡ 2
   pub halfway : counted (takes 1 ∷ grow ∷ merging ∷ grow ∷ []) ≡ 1
-
-pub steps-met : StepsMet
-unfolding opened counted stage_steps grow_call merging_call
-steps-met = record { most = refl; refused = refl; by-run = refl; second = refl; by-calls = refl; halfway = refl }

@@ -1,4 +1,4 @@
-// S-5, merging comes to rest: the statement in specs/Bound.antt, its proof in specs/Theorem.antt, and here the bound as a function.
+// S-5, merging comes to rest: the statement in specs/Bound.antt, its proof in proofs/Theorem.antt, and here the bound as a function.
 #![tactic(auto)]
 
 ghost use Rattle.std.specs.Prelude.{◌≡◌};

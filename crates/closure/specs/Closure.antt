@@ -16,12 +16,12 @@ use Rattle.window.specs.Merging.{merged}
 use Rattle.window.specs.Run.{ran}
 use Rattle.window.specs.declared.Ran.{Ran}
 use Rattle.window.specs.Calls.{Round, receiving, receiving_raw, fresh_call, round_call, raw_call, grow_call, merging_call, run_call}
-use Rattle.window.specs.LawsFresh.{started}
+use Rattle.window.proofs.LawsFresh.{started}
 use Rattle.window.specs.declared.Window.{Window}
 use Rattle.closure.specs.Sized.{Sized}
 use Rattle.steps.specs.Moves.{Move, Steps, table_of}
 use Rattle.steps.specs.Suited.{Suited}
-use Rattle.steps.specs.Suits.{suited}
+use Rattle.steps.proofs.Suits.{suited}
 use Rattle.closure.specs.Fresh.{fresh, fresh-sized}
 use Rattle.closure.specs.Round.{round, round-sized}
 use Rattle.closure.specs.Measured.{measure, measure-sized}

@@ -6,11 +6,13 @@ use borrow.Author.Tests.{leb-true, le-leb, ltb-true, ltb-false, lt-ltb, eqb-true
 use Rattle.std.proofs.Math.Dec.{ltb}
 use Rattle.refusal.specs.Laws.{undone}
 use Rattle.shape.specs.Choice.{if-true, if-false, whether}
-use Rattle.shape.specs.Ranges.{Ranged, ranged, in-range, nodes-of, halves, both}
+use Rattle.shape.specs.Ranges.{Ranged}
+use Rattle.shape.proofs.Ranges.{ranged, in-range, nodes-of, halves, both}
 use Rattle.shape.specs.Sizes.{model_ok, sheets_of, boundary, nodes_in, nodes_of, detectors_of}
 use Rattle.shape.specs.Nodes.{index_of, number_of, place_at}
-use Rattle.shape.specs.LawsIndex.{index-lt, index-inside}
-use Rattle.shape.specs.LawsNumber.{numbered, number_lt}
+use Rattle.shape.proofs.LawsIndex.{index-lt, index-inside}
+use Rattle.shape.specs.LawsNumber.{numbered}
+use Rattle.shape.proofs.LawsNumber.{number_lt}
 use Rattle.steps.specs.Steps.{Table, step, across, namer, slot_in}
 use Rattle.steps.specs.Joins.{Joins}
 use Rattle.shape.specs.declared.Place.{Place}

@@ -5,7 +5,8 @@ use Rattle.std.proofs.Math.Path.{refl}
 use Rattle.std.proofs.Math.Bool.{false, not}
 use Rattle.std.proofs.lemmas.List.{length-replicate}
 use Rattle.shape.specs.Sizes.{IsShape, boundary, nodes_of, detectors_of, max_nodes, max_detectors}
-use Rattle.shape.specs.Ranges.{Ranged, ranged}
+use Rattle.shape.specs.Ranges.{Ranged}
+use Rattle.shape.proofs.Ranges.{ranged}
 use Rattle.shape.specs.Nodes.{number_of, place_at}
 use Rattle.steps.specs.Steps.{Table, slot_in}
 use Rattle.shape.specs.declared.Shape.{Shape}

@@ -4,12 +4,13 @@ use Rattle.std.proofs.Common.{mul-one, sym, ◌∙◌, ap, ⊎_elim, ltb-true, l
 use native.Mathlib.Omega.{arith}
 use Rattle.refusal.specs.Laws.{undone}
 use Rattle.shape.specs.Choice.{if, if-true, if-false, tell, order}
-use Rattle.shape.specs.Ranges.{Ranged, both}
+use Rattle.shape.specs.Ranges.{Ranged}
+use Rattle.shape.proofs.Ranges.{both}
 use Rattle.shape.specs.Sizes.{sheets_of, nodes_in}
 use Rattle.shape.specs.Nodes.{index_of, place_at}
 use Rattle.shape.specs.Counting.{Inside}
-use Rattle.shape.specs.Totals.{total}
-use Rattle.shape.specs.LawsIndex.{index-place, place-index, index-inside}
+use Rattle.shape.proofs.Totals.{total}
+use Rattle.shape.proofs.LawsIndex.{index-place, place-index, index-inside}
 use Rattle.steps.specs.Steps.{Table, step, across, falls}
 use Rattle.steps.specs.Joins.{Joins}
 use Rattle.steps.specs.Proper.{Proper, points}

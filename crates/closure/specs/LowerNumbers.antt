@@ -5,13 +5,14 @@ use Rattle.std.proofs.Math.Path.{sym}
 use Rattle.std.proofs.Math.Bool.{true}
 use Rattle.std.proofs.Math.Logic.{⊎_elim}
 use Rattle.shape.specs.Boundaries.{between, side-lt}
-use Rattle.shape.specs.Cases.{number-side, number-inner}
+use Rattle.shape.proofs.Cases.{number-side, number-inner}
 use Rattle.shape.specs.Choice.{if-true, if-false, tell}
 use Rattle.shape.specs.Counting.{Inside, count-lt}
-use Rattle.shape.specs.LawsNumber.{number-boundary, number-detector, boundary-first}
+use Rattle.shape.proofs.LawsNumber.{number-boundary, number-detector, boundary-first}
 use Rattle.shape.specs.Nodes.{number_of, boundary_nodes}
 use Rattle.shape.specs.Sizes.{sheets_of, boundary}
-use Rattle.shape.specs.Totals.{twice, by-sheets, sideways, inwards}
+use Rattle.shape.specs.Totals.{sideways, inwards}
+use Rattle.shape.proofs.Totals.{twice, by-sheets}
 use Rattle.shape.specs.declared.Place.{Place}
 use Rattle.window.specs.Round.{lowered_number}
 use Rattle.closure.specs.Lower.{lower}

@@ -6,8 +6,8 @@ use Rattle.steps.specs.Slots.{slot-own}
 use Rattle.shape.specs.Choice.{tell}
 use Rattle.shape.specs.Counting.{Inside}
 use Rattle.steps.specs.Joins.{Joins, Clear}
-use Rattle.shape.specs.LawsIndex.{place-index}
-use Rattle.steps.specs.LawsStep.{joins-back, slot-back}
+use Rattle.shape.proofs.LawsIndex.{place-index}
+use Rattle.steps.proofs.LawsStep.{joins-back, slot-back}
 use Rattle.shape.specs.Nodes.{index_of}
 use Rattle.steps.specs.Proper.{points}
 use Rattle.shape.specs.Ranges.{Ranged}

@@ -5,7 +5,7 @@ use Rattle.std.proofs.Math.Path.{subst}
 use Rattle.std.proofs.Math.Bool.{false, not}
 use Rattle.std.proofs.Math.ListN.{length-replicate}
 use Rattle.shape.specs.Sizes.{detectors_of, max_detectors}
-use Rattle.shape.specs.LawsSizes.{detectors-le}
+use Rattle.shape.proofs.LawsSizes.{detectors-le}
 use Rattle.steps.specs.Steps.{Table}
 use Rattle.window.specs.Lists.{all}
 use Rattle.window.specs.LawsLists.{length_over}

@@ -6,7 +6,7 @@ use Rattle.std.proofs.Math.Bool.{true, false, not}
 use Rattle.std.proofs.Math.ListN.{length}
 use Rattle.refusal.specs.Laws.{undone}
 use Rattle.shape.specs.Choice.{if, if-false, tell}
-use Rattle.shape.specs.Ranges.{halves}
+use Rattle.shape.proofs.Ranges.{halves}
 use Rattle.shape.specs.Sizes.{sheets_of, boundary, nodes_in}
 use Rattle.shape.specs.Nodes.{number_of}
 use Rattle.steps.specs.Steps.{Table, namer, slot_in}

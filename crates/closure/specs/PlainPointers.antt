@@ -9,15 +9,17 @@ use borrow.Author.Tests.{ltb-true, eqb-true, not-true}
 use Rattle.std.proofs.Math.Dec.{eqb}
 use Rattle.shape.specs.Choice.{whether}
 use Rattle.shape.specs.Counting.{Inside, wider}
-use Rattle.shape.specs.Ranges.{halves, both}
+use Rattle.shape.proofs.Ranges.{halves, both}
 use Rattle.shape.specs.Sizes.{sheets_of, boundary}
 use Rattle.shape.specs.declared.Place.{Place}
 use Rattle.steps.specs.Steps.{Table, base, step, across, still, along_row, one_apart, beside, both_detectors, falls}
 use Rattle.steps.specs.Joins.{Joins}
 use Rattle.steps.specs.Proper.{points, falls_down}
 use Rattle.steps.specs.Suited.{Suited}
-use Rattle.steps.specs.Models.{of_model, suited-base, suited-model}
-use Rattle.layers.specs.Layers.{spans, joins-spans, spans-joins}
+use Rattle.steps.specs.Models.{of_model}
+use Rattle.steps.proofs.Models.{suited-base, suited-model}
+use Rattle.layers.specs.Layers.{spans}
+use Rattle.layers.proofs.Layers.{joins-spans, spans-joins}
 use Rattle.window.specs.Window.{is_to_grow, reach, supplied, led_to}
 use Rattle.window.specs.Formed.{pointer_fits}
 use Rattle.window.specs.declared.Stage.{Stage}

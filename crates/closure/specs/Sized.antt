@@ -2,7 +2,7 @@
 use Rattle.std.specs.Prelude.{ℕ, ◌*◌, ◌≤◌, ◌≡◌, Bool, length}
 use Rattle.std.proofs.Common.{mul-le-mul_left, arith, ◌∙◌}
 use Rattle.shape.specs.Sizes.{max_nodes, max_detectors}
-use Rattle.shape.specs.LawsIndex.{nodes-max}
+use Rattle.shape.proofs.LawsIndex.{nodes-max}
 use Rattle.window.specs.Lists.{over}
 use Rattle.window.specs.LawsLists.{length_over}
 use Rattle.steps.specs.Steps.{Table}

@@ -3,11 +3,11 @@ use Rattle.std.specs.Prelude.{ℕ, ◌≡◌, true, not}
 use Rattle.std.proofs.Common.{sym, ◌∙◌, ap}
 use Rattle.shape.specs.Sizes.{boundary}
 use Rattle.shape.specs.Nodes.{index_of}
-use Rattle.shape.specs.LawsIndex.{index-place, place-index}
+use Rattle.shape.proofs.LawsIndex.{index-place, place-index}
 use Rattle.steps.specs.Steps.{Table, step, across, slot}
 use Rattle.steps.specs.Joins.{Joins}
 use Rattle.steps.specs.Proper.{Points, Reversed, points}
-use Rattle.steps.specs.LawsStep.{across-back, joins-back, slot-back}
+use Rattle.steps.proofs.LawsStep.{across-back, joins-back, slot-back}
 use Rattle.shape.specs.declared.Place.{Place}
 use Rattle.window.specs.Window.{present, place, detector, to}
 use Rattle.window.specs.declared.Window.{Window}

@@ -1,5 +1,5 @@
 -- Creations by value: the refusals in their order, and limits at their edges. Assumes nothing.
-use Rattle.std.specs.Prelude.{◌≡◌, refl}
+use Rattle.std.specs.Prelude.{◌≡◌}
 use Rattle.refusal.specs.Answer.{done, refused}
 use Rattle.shape.specs.Sizes.{shape_by}
 use Rattle.creation.specs.Creation.{allowed_shape}
@@ -23,21 +23,3 @@ pub record Witness : Type 0 where
   pub distance-first : allowed_shape 3 16 2 0 16 ≡ refused 2
   pub model-first : allowed_shape 8 7 2 7 7 ≡ refused 31
   pub model-first-16 : allowed_shape 3 3 2 16 16 ≡ refused 31
-
-pub witness : Witness
-witness =
-    record {
-      rack = refl;
-      console = refl;
-      smallest = refl;
-      high = refl;
-      wide = refl;
-      no-height = refl;
-      no_distance = refl;
-      limit-height-16 = refl;
-      limit-distance-16 = refl;
-      height-first = refl;
-      distance-first = refl;
-      model-first = refl;
-      model-first-16 = refl;
-    }

@@ -85,7 +85,7 @@ fn conclude(rt: &(impl Eprint + Files), ending: Ending) {
     say(rt, ending);
 }
 
-// Whether the next record has no room behind the others; an empty buffer has room for any (decoding/specs/Lengths.antt).
+// Whether the next record has no room behind the others; an empty buffer has room for any (decoding/proofs/Lengths.antt).
 fn is_full(ending: Ending) -> bool {
     match ending {
         Ending::Finished => false,

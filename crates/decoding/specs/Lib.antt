@@ -3,5 +3,4 @@ pub mod Answers
 pub mod LawsTurn
 pub mod LawsDecoding
 pub mod Printed
-pub mod Resumed
 pub mod Lengths

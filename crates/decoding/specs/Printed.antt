@@ -1,6 +1,6 @@
 -- THE PRINTED LINES of document 01 that are to be proved, with S-4's model behind the distance, on the rules themselves; a session that shows absent rounds,
 -- and one of model 1. Assumes nothing.
-use Rattle.std.specs.Prelude.{ℕ, ◌≡◌, refl, true, false, List, [], ◌∷◌}
+use Rattle.std.specs.Prelude.{ℕ, ◌≡◌, true, false, List, [], ◌∷◌}
 use Rattle.number.specs.Number as number
 use Rattle.list.specs.Sheet as list
 use Rattle.shape.specs.Nodes as nodes
@@ -24,7 +24,7 @@ use Rattle.window.specs.declared.Window.{Window}
 use Rattle.decoding.specs.Decoding.{Decoded, finished, decoded, rounds_from, record_at, turn_at}
 
 -- all the rules, for `unfolding`
-unfoldable opened : ℕ
+unfoldable pub opened : ℕ
 unfolding list.ones list.skips list.listed list.entries_at list.list_at list.are_bits number.written number.number_at number.groups number.group_at nodes.index_of nodes.place_at nodes.number_of nodes.place_of steps.base models.circuit models.of_model steps.across steps.joined steps.near steps.slot steps.naming ranks.rank ranks.pick layers.spans layers.edge_of layers.layer_edges records.header records.header_at records.result lists.from lists.by_place lists.every lists.any lists.all window.reach fresh.fresh_window formed.pointer_fits formed.node_fits formed.slot_fits_at formed.well_formed round.committed_edges round.escaped_defects round.lowered_number round.top_node round.fallen_node round.fallen_slot round.rounded grow.grown_slot grow.grown_node grow.grown merging.sees merging.synced_active merging.arrivals merging.scan merging.floods merging.stepped merging.seen merging.step_at merging.flipped_slot merging.merged run.steps_from run.ran calls.round_call calls.run_call turn_at record_at rounds_from decoded
 opened = 0
 
@@ -56,10 +56,6 @@ pub record Printed : Type 0 where
   -- the lines of shapes, numbers and refused headers
   pub streams : stream.Printed
 
-pub printed : Printed
-unfolding opened
-printed = record { first = refl; second = refl; tie = refl; absent = refl; diagonal = refl; streams = stream.printed }
-
 -- FIRST SESSION, third round by run: budget 4 answers rest 4, budget 3 spent 3, and one step more then reaches rest
 
 abbrev next_round : Window → List ℕ → Window
@@ -74,7 +70,3 @@ pub record Budgets : Type 0 where
   pub spent : (run.ran base 3 third).rest ≡ false
   pub spent-steps : (run.ran base 3 third).count ≡ 3
   pub one_more : (run.ran base 1 (run.ran base 3 third).window).rest ≡ true
-
-pub budgets : Budgets
-unfolding opened third
-budgets = record { rest = refl; rest-steps = refl; spent = refl; spent-steps = refl; one_more = refl }

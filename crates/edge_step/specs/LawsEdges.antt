@@ -4,7 +4,7 @@ use Rattle.std.proofs.Common.{arith, ap, sym, ◌∙◌, subst, inl, inr, ⊎_el
 use Rattle.std.proofs.Math.Bool.{or-true, or-false}
 use Rattle.std.proofs.lemmas.Bool.{eqb-false, not-true}
 use Rattle.shape.specs.Choice.{if-true, if-false, whether, order}
-use Rattle.shape.specs.Ranges.{halves}
+use Rattle.shape.proofs.Ranges.{halves}
 use Rattle.window.specs.Lists.{xor}
 use Rattle.window.specs.LawsLists.{bit-most, any_none, any_next}
 use Rattle.flat.specs.Codes.{defect_of, pointer_of, no_edge, edge_code, growth_of, correction_of}

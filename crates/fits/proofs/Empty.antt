@@ -5,7 +5,7 @@ use Prim.Native.Nat.{ℕ}
 use native.Mathlib.Omega.{arith}
 use borrow.Author.Tests.{le-leb, eqb-true}
 use lib.Dec.{leb}
-use Rattle.shape.specs.Ranges.{halves, both}
+use Rattle.shape.proofs.Ranges.{halves, both}
 use Rattle.window.specs.Formed.{is_empty, slot_fits}
 
 either : (a b : Bool) → b ≡ true → a || b ≡ true

@@ -2,7 +2,8 @@
 use Rattle.std.specs.Prelude.{ℕ, ◌+◌, ◌*◌, ◌≤◌, ◌<◌, ◌≡◌, true, false, ◌&&◌, ◌⊎◌, leb, ltb}
 use Rattle.std.proofs.Common.{mul-le-mul, mul-le-mul_right, add-mul, one-mul, arith, ap, ◌∙◌, inl, inr, le-leb, lt-ltb, ltb-true, ltb-false, leb-true, leb-false}
 use Rattle.shape.specs.Choice.{whether}
-use Rattle.shape.specs.Ranges.{Ranged, halves, both}
+use Rattle.shape.specs.Ranges.{Ranged}
+use Rattle.shape.proofs.Ranges.{halves, both}
 use Rattle.shape.specs.Sizes.{max_distance}
 use Rattle.flat.specs.Entries.{within}
 

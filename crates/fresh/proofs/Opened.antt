@@ -9,7 +9,8 @@ use Rattle.refusal.specs.Laws.{turned-not, turned-passed, value_not, turned_as}
 use Rattle.refusal.specs.declared.Refusal.{Refusal}
 use Rattle.shape.specs.Sizes.{shape_answer, in_range, sheets_of, nodes_of, max_nodes, max_detectors}
 use Rattle.creation.specs.Creation.{allowed_shape}
-use Rattle.creation.specs.Laws.{Allowed, allowed-is}
+use Rattle.creation.specs.Laws.{Allowed}
+use Rattle.creation.proofs.Laws.{allowed-is}
 use Rattle.steps.specs.Steps.{Table}
 use Rattle.steps.specs.Models.{of_model}
 use Rattle.window.specs.Window.{alone, unused, max_slots}

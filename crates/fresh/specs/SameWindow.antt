@@ -8,7 +8,7 @@ use Rattle.creation.specs.Creation.{allowed_shape}
 use Rattle.steps.specs.Steps.{Table}
 use Rattle.window.specs.Fresh.{fresh_window}
 use Rattle.window.specs.Calls.{Answered, fresh_call, fresh_leaves}
-use Rattle.window.specs.LawsFresh.{started, by_shape, created, created-by}
+use Rattle.window.proofs.LawsFresh.{started, by_shape, created, created-by}
 use Rattle.window.specs.declared.Window.{Window}
 
 -- THE STATEMENT, of any table of steps; H₁ and D₁, H₂ and D₂ are largest heights and distances

@@ -27,7 +27,7 @@ use Rattle.growing.specs.Grown.{Actives, raised, hits_of, Leads, Raised, cut_nod
 use Rattle.growing.specs.LawsCut.{kept-active, kept-defect, kept-unrooted, cut-pointer}
 use Rattle.growing.specs.LawsGrown.{raised-growth, raised-correction, edge_in_lem}
 use Rattle.shows.specs.Grown.{cuts_at, Grows}
-use Rattle.shows.specs.Read.{place-node, node-within-entry, flat-entry, flat-held}
+use Rattle.shows.proofs.Read.{place-node, node-within-entry, flat-entry, flat-held}
 use Rattle.grow_step.specs.Standing.{Standing}
 use Rattle.grow_step.specs.Openings.{Openings}
 use Rattle.grow_step.proofs.Ends.{same-edge, named-low, named-at}

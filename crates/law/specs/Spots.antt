@@ -1,7 +1,8 @@
 -- Spots, and the rounds that are in the window. Assumes nothing.
 use Rattle.std.specs.Prelude.{ℕ, ◌-◌, ◌≤◌, ◌<◌, ◌≡◌, refl, true, false, ◌&&◌, ◌⊎◌, leb, ltb, eqb, length}
 use Rattle.std.proofs.Common.{arith, ◌∙◌, ap, inl, inr, lt-ltb, le-leb, le-ltb, ltb-true, leb-true, eqb-true, eq-eqb}
-use Rattle.shape.specs.Ranges.{Ranged, halves, both}
+use Rattle.shape.specs.Ranges.{Ranged}
+use Rattle.shape.proofs.Ranges.{halves, both}
 use Rattle.shape.specs.Counting.{Inside}
 use Rattle.steps.specs.Steps.{Table}
 use Rattle.layers.specs.declared.Edge.{Edge}

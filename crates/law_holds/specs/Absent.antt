@@ -8,9 +8,9 @@ use Rattle.std.proofs.lemmas.Bool.{not-true}
 use Rattle.std.proofs.Math.ListN.{get_or, get_or-eq_default}
 use Rattle.refusal.specs.Laws.{undone}
 use Rattle.shape.specs.Choice.{order}
-use Rattle.shape.specs.LawsIndex.{place-index}
+use Rattle.shape.proofs.LawsIndex.{place-index}
 use Rattle.shape.specs.Nodes.{index_of}
-use Rattle.shape.specs.Ranges.{halves}
+use Rattle.shape.proofs.Ranges.{halves}
 use Rattle.shape.specs.Sizes.{sheets_of, detectors_of}
 use Rattle.shape.specs.declared.Place.{Place}
 use Rattle.steps.specs.Steps.{Table, namer, slot_in}

@@ -7,11 +7,12 @@ use Rattle.std.proofs.Math.Bool.{false, not}
 use Rattle.layers.specs.Layers.{edge_number, edge_of, layer_edges, node_of}
 use Rattle.law_holds.specs.Layered.{layered}
 use Rattle.shape.specs.Choice.{if-true, if-false, tell}
-use Rattle.shape.specs.Ranges.{Ranged, halves, both}
+use Rattle.shape.specs.Ranges.{Ranged}
+use Rattle.shape.proofs.Ranges.{halves, both}
 use Rattle.steps.specs.Steps.{Table, step, goes, across, slot, namer, naming_end}
 use Rattle.steps.specs.Joins.{Joins}
 use Rattle.steps.specs.Proper.{Opposed, points}
-use Rattle.steps.specs.LawsStep.{across-back, joins-back, slots_apart}
+use Rattle.steps.proofs.LawsStep.{across-back, joins-back, slots_apart}
 use Rattle.layers.specs.declared.Edge.{Edge}
 use Rattle.shape.specs.declared.Place.{Place}
 use Rattle.window.specs.Window.{present, reach}

@@ -8,7 +8,8 @@ use borrow.Author.Tests.{eqb-true, eq-eqb}
 use Rattle.shape.specs.Choice.{tell, order}
 use Rattle.steps.specs.Joins.{Joins}
 use Rattle.shape.specs.Nodes.{number_of}
-use Rattle.shape.specs.Ranges.{Ranged, halves, both}
+use Rattle.shape.specs.Ranges.{Ranged}
+use Rattle.shape.proofs.Ranges.{halves, both}
 use Rattle.shape.specs.Sizes.{sheets_of}
 use Rattle.steps.specs.Steps.{Table, step, across, falls}
 use Rattle.shape.specs.declared.Place.{Place}

@@ -6,7 +6,7 @@ use Rattle.std.proofs.Math.Path.{ap}
 use Rattle.std.proofs.Math.Bool.{false}
 use Rattle.shape.specs.Choice.{if-true}
 use Rattle.shape.specs.Sizes.{in_range}
-use Rattle.shape.specs.Ranges.{ranged}
+use Rattle.shape.proofs.Ranges.{ranged}
 use Rattle.shape.specs.Nodes.{index_of}
 use Rattle.steps.specs.Steps.{Table}
 use Rattle.shape.specs.declared.Shape.{Shape}

@@ -9,7 +9,7 @@ use Rattle.shape.specs.Choice.{tell, order}
 use Rattle.shape.specs.Sizes.{boundary}
 use Rattle.shape.specs.Boundaries.{not_end}
 use Rattle.shape.specs.Nodes.{index_of}
-use Rattle.shape.specs.LawsIndex.{place-index}
+use Rattle.shape.proofs.LawsIndex.{place-index}
 use Rattle.steps.specs.Steps.{Table, slot}
 use Rattle.shape.specs.declared.Place.{Place}
 use Rattle.window.specs.Lists.{bit, xor}

@@ -1,10 +1,11 @@
 -- The graph of a well-formed window obeys the laws of graphs. Assumes nothing.
 use Rattle.std.specs.Prelude.{ℕ, ◌<◌, ◌≡◌, eqb, get_or}
 use Rattle.std.proofs.Common.{sym, ◌∙◌, ap}
-use Rattle.shape.specs.Ranges.{Ranged, halves, both}
+use Rattle.shape.specs.Ranges.{Ranged}
+use Rattle.shape.proofs.Ranges.{halves, both}
 use Rattle.shape.specs.Nodes.{index_of, number_of}
-use Rattle.shape.specs.LawsIndex.{index-place}
-use Rattle.shape.specs.LawsNumber.{number-injective}
+use Rattle.shape.proofs.LawsIndex.{index-place}
+use Rattle.shape.proofs.LawsNumber.{number-injective}
 use Rattle.steps.specs.Steps.{Table}
 use Rattle.shape.specs.declared.Place.{Place}
 use Rattle.window.specs.Window.{size, place, to}

@@ -3,7 +3,8 @@ use Rattle.std.specs.Prelude.{ℕ, ◌+◌, ◌-◌, ◌≤◌, ◌<◌, ◌≡�
 use Rattle.std.proofs.Common.{arith}
 use Rattle.layers.specs.Layers.{edge_of, layer_edges, node_of}
 use Rattle.law_holds.specs.Layered.{layered}
-use Rattle.shape.specs.Ranges.{Ranged, halves, both}
+use Rattle.shape.specs.Ranges.{Ranged}
+use Rattle.shape.proofs.Ranges.{halves, both}
 use Rattle.shape.specs.Counting.{Inside}
 use Rattle.steps.specs.Steps.{Table, step, namer}
 use Rattle.steps.specs.Joins.{Clear}

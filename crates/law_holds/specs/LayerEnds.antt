@@ -7,7 +7,7 @@ use Rattle.shape.specs.Choice.{if-true, if-false, tell}
 use Rattle.steps.specs.Steps.{Table, step, goes, across, slot, namer, naming_end}
 use Rattle.steps.specs.Joins.{Joins}
 use Rattle.steps.specs.Proper.{Points, Opposed, Reversed, points}
-use Rattle.steps.specs.LawsStep.{across-back, joins-back}
+use Rattle.steps.proofs.LawsStep.{across-back, joins-back}
 use Rattle.layers.specs.declared.Edge.{Edge}
 use Rattle.shape.specs.declared.Place.{Place}
 use Rattle.steps.specs.declared.Shift.{Shift}

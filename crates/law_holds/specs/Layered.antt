@@ -5,8 +5,9 @@ use Rattle.shape.specs.declared.Place.{Place}
 use Rattle.steps.specs.Steps.{Table, step, namer}
 use Rattle.steps.specs.Joins.{Clear, Joins}
 use Rattle.steps.specs.Suited.{Suited}
-use Rattle.layers.specs.Layers.{edge_number, edge_of, layer_edges, edge_by, node_of, number-has, has_named, number-edge, named-has, edge-number}
-use Rattle.layers.specs.Layers as layers
+use Rattle.layers.specs.Layers.{edge_number, edge_of, layer_edges, edge_by, node_of}
+use Rattle.layers.proofs.Layers.{number-has, has_named, number-edge, named-has, edge-number}
+use Rattle.layers.proofs.Layers as layers
 
 pub record Layered (T : Table) : Type 0 where
   -- edge i of the layer at depth j, where its other end is not above the top sheet

@@ -7,7 +7,7 @@ use Rattle.shape.specs.Choice.{if-true, if-false, tell}
 use Rattle.shape.specs.Ranges.{Ranged}
 use Rattle.shape.specs.Sizes.{boundary}
 use Rattle.shape.specs.Nodes.{index_of}
-use Rattle.shape.specs.LawsIndex.{index-place}
+use Rattle.shape.proofs.LawsIndex.{index-place}
 use Rattle.steps.specs.Steps.{Table, step, across, slot, namer, naming_end}
 use Rattle.steps.specs.Joins.{Joins}
 use Rattle.steps.specs.Proper.{Points, points}

@@ -2,7 +2,7 @@
 use Rattle.std.specs.Prelude.{ℕ, ◌<◌, ◌≡◌, refl, Bool, true, false, ◌&&◌, not}
 use Rattle.std.proofs.Common.{sym, ◌∙◌, ap, subst, eqb-true, eq-eqb}
 use Rattle.refusal.specs.Laws.{undone}
-use Rattle.shape.specs.Ranges.{halves, both}
+use Rattle.shape.proofs.Ranges.{halves, both}
 use Rattle.shape.specs.Sizes.{boundary}
 use Rattle.steps.specs.Steps.{Table}
 use Rattle.window.specs.Window.{size, at, place, detector}

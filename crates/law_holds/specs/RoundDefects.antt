@@ -11,7 +11,7 @@ use Rattle.shape.specs.Choice.{if, if-true, if-false, order}
 use Rattle.shape.specs.Ranges.{Ranged}
 use Rattle.shape.specs.Sizes.{boundary, detectors_of}
 use Rattle.shape.specs.Boundaries.{not_end}
-use Rattle.shape.specs.LawsIndex.{place-index, index-lt}
+use Rattle.shape.proofs.LawsIndex.{place-index, index-lt}
 use Rattle.shape.specs.Nodes.{index_of}
 use Rattle.shape.specs.Counting.{Inside, quotient, rest, before}
 use Rattle.steps.specs.Steps.{Table}

@@ -4,7 +4,7 @@ use Rattle.std.proofs.Common.{eq-or-lt_of_le, add-one, arith, sym, ◌∙◌, ap
 use Rattle.std.proofs.Math.Path.{refl}
 use Rattle.refusal.specs.Laws.{undone}
 use Rattle.shape.specs.Choice.{tell}
-use Rattle.shape.specs.Ranges.{halves}
+use Rattle.shape.proofs.Ranges.{halves}
 use Rattle.window.specs.Lists.{by_place, bit, xor}
 use Rattle.window.specs.LawsLists.{by-snoc, and_no, and-not}
 use Rattle.window.specs.Merging.{arrivals}

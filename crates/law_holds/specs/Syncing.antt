@@ -4,7 +4,7 @@ use Rattle.std.specs.Prelude.{ℕ, ◌+◌, ◌-◌, ◌≤◌, ◌<◌, ◌≡�
 use Rattle.std.proofs.Common.{arith, sym, ◌∙◌, ap, ap₂, eqb-true, eq-eqb, ne_eqb}
 use Rattle.refusal.specs.Laws.{undone}
 use Rattle.shape.specs.Choice.{if-true, if-false, whether}
-use Rattle.shape.specs.Ranges.{halves, both}
+use Rattle.shape.proofs.Ranges.{halves, both}
 use Rattle.steps.specs.Steps.{Table, step}
 use Rattle.steps.specs.Suited.{Suited}
 use Rattle.window.specs.Lists.{by_place, xor}

@@ -10,12 +10,13 @@ use Rattle.window.specs.Measured.{as_sheet, measuring}
 use Rattle.window.specs.LawsMeasured.{sheet-none}
 use Rattle.window.specs.Grow.{grown}
 use Rattle.window.specs.Merging.{merged}
-use Rattle.window.specs.LawsFresh.{started}
+use Rattle.window.proofs.LawsFresh.{started}
 use Rattle.window.specs.declared.Window.{Window}
 use Rattle.steps.specs.Moves.{Move, Steps, table_of}
 use Rattle.steps.specs.Suited.{Suited}
-use Rattle.steps.specs.Suits.{suited}
-use Rattle.steps.specs.Models.{phenomenological, circuit_level, circuit, steps-0, steps-1, base-is, circuit-is, of_model, of-both}
+use Rattle.steps.proofs.Suits.{suited}
+use Rattle.steps.specs.Models.{phenomenological, circuit_level, circuit, of_model}
+use Rattle.steps.proofs.Models.{steps-0, steps-1, base-is, circuit-is, of-both}
 use Rattle.closure.specs.Facts.{facts}
 use Rattle.closure.specs.Closure.{kept_fresh}
 use Rattle.law.specs.Law.{Played, Call, AbsentEmpty, Law, Demand3, play, start, last}

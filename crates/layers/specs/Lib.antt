@@ -3,4 +3,3 @@ pub mod Boxes
 pub mod Layer
 pub mod Cases
 pub mod LawsLayer
-pub mod Document

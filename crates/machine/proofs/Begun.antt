@@ -7,7 +7,8 @@ use Rattle.shape.specs.Choice.{if}
 use Rattle.shape.specs.Sizes.{nodes_of}
 use Rattle.shape.specs.declared.Shape.{Shape}
 use Rattle.steps.specs.Steps.{Table}
-use Rattle.steps.specs.Models.{of_model, suited-model}
+use Rattle.steps.specs.Models.{of_model}
+use Rattle.steps.proofs.Models.{suited-model}
 use Rattle.window.specs.Lists.{every}
 use Rattle.window.specs.Window.{is_rest, is_to_grow, is_merging, size, sheet}
 use Rattle.window.specs.Grow.{grown}
@@ -25,12 +26,13 @@ use Rattle.shows.specs.Planned.{Planned}
 use Rattle.shows.specs.Shows.{Shows, window_of}
 use Rattle.shows.specs.Unpack.{window-shown}
 use Rattle.shows.specs.Riding.{Riding}
-use Rattle.shows.specs.Grown.{Grows, grown-shows, riding-grown}
-use Rattle.shows.specs.Tests.{riding-by, aloft-by}
+use Rattle.shows.specs.Grown.{Grows}
+use Rattle.shows.proofs.Grown.{grown-shows, riding-grown}
+use Rattle.shows.proofs.Tests.{riding-by, aloft-by}
 use Rattle.shows.specs.Pass.{Going}
-use Rattle.shows.specs.Turn.{going-all}
+use Rattle.shows.proofs.Turn.{going-all}
 use Rattle.window.specs.LawsRun.{ran-grown, ran-merging}
-use Rattle.shows.specs.Run.{Over}
+use Rattle.shows.proofs.Run.{Over}
 use Rattle.plan.specs.Table.{sizes_of}
 use Rattle.plan.specs.Filled.{Filled}
 use Rattle.unpack.specs.Rides.{rides_in}

@@ -6,10 +6,11 @@ use mathlib.Core.Path.{◌≡◌, refl, sym, ◌∙◌, ap, subst}
 use mathlib.Core.Bool.{Bool, true, false}
 use mathlib.Core.List.{List}
 use lib.ListN.{length, get_or, replicate, length-replicate, get_or-replicate}
-use Rattle.shape.specs.Ranges.{in-range}
+use Rattle.shape.proofs.Ranges.{in-range}
 use Rattle.shape.specs.Sizes.{in_range, max_nodes, max_detectors}
 use Rattle.steps.specs.Steps.{Table}
-use Rattle.steps.specs.Models.{of_model, suited-model}
+use Rattle.steps.specs.Models.{of_model}
+use Rattle.steps.proofs.Models.{suited-model}
 use Rattle.window.specs.Window.{is_rest, max_slots, size, sheet}
 use Rattle.window.specs.Fresh.{slots-model}
 use Rattle.window.specs.Formed.{well_formed}
@@ -25,10 +26,12 @@ use Rattle.flat.specs.Entries.{State, plane, planes, cell, state_of, Long}
 use Rattle.flat.specs.Plan.{Plan, plan_of, Safe}
 use Rattle.flat.specs.declared.Sizes.{Sizes}
 use Rattle.shows.specs.Shows.{Shows, window_of}
-use Rattle.shows.specs.Written.{written-shows}
+use Rattle.shows.proofs.Written.{written-shows}
 use Rattle.shows.specs.Unpack.{window-shown}
-use Rattle.shows.specs.Sinks.{second_there, Sinks, sinks-shows}
-use Rattle.shows.specs.Grown.{Grows, grown-shows}
+use Rattle.shows.specs.Sinks.{second_there, Sinks}
+use Rattle.shows.proofs.Sinks.{sinks-shows}
+use Rattle.shows.specs.Grown.{Grows}
+use Rattle.shows.proofs.Grown.{grown-shows}
 use Rattle.queue.specs.Queue.{Empty}
 use Rattle.grow_step.specs.Standing.{Standing}
 use Rattle.plan.specs.Table.{sizes_of}

@@ -12,13 +12,14 @@ use Rattle.list.specs.Trip.{list-writes}
 use Rattle.shape.specs.Choice.{whether}
 use Rattle.steps.specs.Steps.{Table}
 use Rattle.steps.specs.Suited.{Suited}
-use Rattle.record.specs.Laws.{before-end, at-end as none_left}
+use Rattle.record.proofs.Laws.{before-end, at-end as none_left}
 use Rattle.record.specs.Records.{unless_ended, round_at}
 use Rattle.window.specs.Window.{is_rest, max_next}
 use Rattle.window.specs.Formed.{well_formed}
 use Rattle.window.specs.declared.Window.{Window}
 use Rattle.decoding.specs.Decoding.{Turn, turn_of, recorded, last_test, offset_tests, turn_at, record_tests, record_at}
-use Rattle.decoding.specs.LawsTurn.{detectors, on_bytes, turn-steps, turn-done}
+use Rattle.decoding.specs.LawsTurn.{detectors}
+use Rattle.decoding.proofs.LawsTurn.{on_bytes, turn-steps, turn-done}
 use Rattle.next_round.specs.Next.{next_round}
 
 module _ (s : List ℕ) (count next at size to : ℕ) where

@@ -16,12 +16,13 @@ use Rattle.record.specs.declared.RoundRead.{RoundRead}
 use Rattle.record.specs.declared.RoundRead.TheVariants as round_read
 use Rattle.shape.specs.Sizes.{detectors_of}
 use Rattle.shape.specs.declared.Shape.{Shape}
-use Rattle.steps.specs.Models.{of_model, suited-model}
+use Rattle.steps.specs.Models.{of_model}
+use Rattle.steps.proofs.Models.{suited-model}
 use Rattle.window.specs.declared.Ran.{Ran}
 use Rattle.window.specs.declared.Window.{Window}
 use Rattle.decoding.specs.Decoding.{Line, finished, turned_back, Turn, turn_by, turn_of, Recorded, recorded}
 use Rattle.decoding.specs.Answers.{RecordAnswer, over, to, RecordReturned, record_returned, recorded_leaves, record_leaves}
-use Rattle.decoding.specs.LawsDecoding.{recorded-turned}
+use Rattle.decoding.proofs.LawsDecoding.{recorded-turned}
 use Rattle.flat.specs.Entries.{State, state_of, Long}
 use Rattle.flat.specs.Plan.{Plan}
 use Rattle.next_round.specs.Next.{next_round}

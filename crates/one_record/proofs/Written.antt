@@ -15,11 +15,11 @@ use Rattle.number.specs.declared.Wrote.{Wrote}
 use Rattle.number.specs.declared.Wrote.TheVariants as wrote_to
 use Rattle.list.specs.Sheet.{are_bits}
 use Rattle.shape.specs.Choice.{if-true, if-false}
-use Rattle.shape.specs.Ranges.{halves}
+use Rattle.shape.proofs.Ranges.{halves}
 use Rattle.shape.specs.Sizes.{IsShape, height_ok, distance_ok, layer_edges_of}
 use Rattle.shape.specs.declared.Shape.{Shape}
 use Rattle.steps.specs.Models.{of_model}
-use Rattle.layers.specs.Document.{count-model}
+use Rattle.layers.proofs.Document.{count-model}
 use Rattle.record.specs.Calls.{write_result, as_result, place_tests, edges_test, escapes_test}
 use Rattle.record.specs.Records.{result}
 use Rattle.window.specs.Round.{committed_edges, escaped_defects}
@@ -27,7 +27,7 @@ use Rattle.window.specs.declared.Ran.{Ran}
 use Rattle.window.specs.declared.Window.{Window}
 use Rattle.decoding.specs.Decoding.{turned_back, spent, turn_by, Recorded}
 use Rattle.decoding.specs.Answers.{record_returned, recorded_leaves, over, to}
-use Rattle.decoding.specs.LawsTurn.{committed-long, committed-bits, escaped-long, escaped-bits}
+use Rattle.decoding.proofs.LawsTurn.{committed-long, committed-bits, escaped-long, escaped-bits}
 use Rattle.flat.specs.Entries.{state_of}
 use Rattle.shows.specs.Shows.{Shows}
 use Rattle.one_record.specs.RecordOf.{turn_leaves, RecordOf}

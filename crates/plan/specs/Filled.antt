@@ -11,18 +11,21 @@ use Rattle.std.proofs.lemmas.List.{length-replicate}
 use Rattle.shape.specs.Boundaries.{between, side-lt}
 use Rattle.shape.specs.Choice.{if, whether}
 use Rattle.shape.specs.Counting.{before}
-use Rattle.shape.specs.LawsIndex.{window-le}
-use Rattle.shape.specs.LawsNumber.{number-boundary, number-detector}
+use Rattle.shape.proofs.LawsIndex.{window-le}
+use Rattle.shape.proofs.LawsNumber.{number-boundary, number-detector}
 use Rattle.shape.specs.Nodes.{number_of, place_at, index_of, boundary_nodes, side}
-use Rattle.shape.specs.Ranges.{Ranged, ranged, halves, nodes-of, sheets-le}
+use Rattle.shape.specs.Ranges.{Ranged}
+use Rattle.shape.proofs.Ranges.{ranged, halves, nodes-of, sheets-le}
 use Rattle.shape.specs.Sizes.{in_range, sheets_of, boundary, nodes_of, nodes_in}
-use Rattle.shape.specs.Totals.{by-sheets}
+use Rattle.shape.proofs.Totals.{by-sheets}
 use Rattle.steps.specs.Steps.{Table, step, falls, namer}
 use Rattle.steps.specs.Ranks.{bit}
 use Rattle.steps.specs.Suited.{Suited, namer-moves}
 use Rattle.steps.specs.declared.Step.{Step}
-use Rattle.layers.specs.Boxes.{row_first, column_first, row_end, column_end, rows, columns, within, named, areas, spans-box, number-closed}
-use Rattle.layers.specs.Layers.{spans, edge_of, layer_edges, node_of, Has, number-has, number-edge}
+use Rattle.layers.specs.Boxes.{row_first, column_first, row_end, column_end, rows, columns, within, named, areas}
+use Rattle.layers.proofs.Boxes.{spans-box, number-closed}
+use Rattle.layers.specs.Layers.{spans, edge_of, layer_edges, node_of}
+use Rattle.layers.proofs.Layers.{Has, number-has, number-edge}
 use Rattle.layers.specs.declared.Edge.{Edge}
 use Rattle.flat.specs.Entries.{plane, entry, cell}
 use Rattle.flat.specs.Plan.{plan_of, place_in, Safe}

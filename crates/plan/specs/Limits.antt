@@ -6,11 +6,13 @@ use Rattle.std.specs.Prelude.{◌≡◌, Bool, true, false, leb, length}
 use Rattle.std.proofs.Math.Path.{refl}
 use Rattle.std.proofs.Math.Logic.{⊎_elim}
 use Rattle.shape.specs.Choice.{if, whether, if-true, if-false, order}
-use Rattle.shape.specs.Ranges.{Ranged, ranged, halves, sheets-le}
+use Rattle.shape.specs.Ranges.{Ranged}
+use Rattle.shape.proofs.Ranges.{ranged, halves, sheets-le}
 use Rattle.shape.specs.Sizes.{in_range, sheets_of}
 use Rattle.shape.specs.Nodes.{index_of, boundary_nodes}
 use Rattle.steps.specs.Steps.{Table, base, step, namer, beside}
-use Rattle.steps.specs.Models.{circuit, of_model, of-both, few-dirs, few-kinds}
+use Rattle.steps.specs.Models.{circuit, of_model}
+use Rattle.steps.proofs.Models.{of-both, few-dirs, few-kinds}
 use Rattle.steps.specs.Suited.{naming-at}
 use Rattle.steps.specs.Offsets.{back_by, on_by}
 use Rattle.steps.specs.declared.Shift.{Shift}

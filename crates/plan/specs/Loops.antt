@@ -2,7 +2,7 @@
 use Rattle.std.specs.Prelude.{ℕ, ◌+◌, ◌-◌, ◌*◌, ◌≤◌, ◌<◌, ◌≡◌, true, false}
 use Rattle.std.proofs.Common.{mul-le-mul, arith, sym, ◌∙◌, ap}
 use Rattle.shape.specs.Choice.{if-true, if-false}
-use Rattle.shape.specs.Ranges.{ranged}
+use Rattle.shape.proofs.Ranges.{ranged}
 use Rattle.shape.specs.Sizes.{in_range}
 use Rattle.shape.specs.Nodes.{boundary_nodes}
 use Rattle.steps.specs.Steps.{beside}

@@ -12,12 +12,12 @@ use Rattle.number.specs.Number.{written}
 use Rattle.list.specs.Sheet.{are_bits}
 use Rattle.list_writer.specs.Gaps.{top}
 use Rattle.list_writer.specs.Laws.{top-zeros, bits-told, listed-zero}
-use Rattle.shape.specs.Ranges.{halves}
+use Rattle.shape.proofs.Ranges.{halves}
 use Rattle.shape.specs.Sizes.{IsShape, height_ok, distance_ok, detectors_of, layer_edges_of}
 use Rattle.shape.specs.declared.Shape.{Shape}
 use Rattle.record.specs.Records.{result}
 use Rattle.record.specs.Calls.{place_tests, edges_test, escapes_test, write_result, as_result}
-use Rattle.record.specs.Laws.{result-is}
+use Rattle.record.proofs.Laws.{result-is}
 
 -- the tests of the lists, behind those of the place
 abbrev pub bits : List ℕ → List ℕ → List (Bool × ℕ)

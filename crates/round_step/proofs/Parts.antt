@@ -10,7 +10,7 @@ use lib.ListN.{length, get_or}
 use Rattle.shape.specs.Boundaries.{between, either_end}
 use Rattle.shape.specs.Choice.{whether}
 use Rattle.shape.specs.Counting.{before}
-use Rattle.shape.specs.Ranges.{ranged}
+use Rattle.shape.proofs.Ranges.{ranged}
 use Rattle.shape.specs.Sizes.{in_range, boundary, nodes_of}
 use Rattle.window.specs.Round.{lowered_number}
 use Rattle.flat.specs.Codes.{node_code}

@@ -3,8 +3,8 @@ use Rattle.std.specs.Prelude.{ℕ, ◌+◌, ◌-◌, ◌*◌, ◌≤◌, ◌<◌
 use Rattle.std.proofs.Common.{mul-le-mul, mul-one, arith, ◌∙◌}
 use Rattle.std.proofs.lemmas.Bool.{not-true}
 use Rattle.shape.specs.Choice.{whether}
-use Rattle.shape.specs.LawsIndex.{nodes-max}
-use Rattle.shape.specs.Ranges.{halves, ranged, in-range}
+use Rattle.shape.proofs.LawsIndex.{nodes-max}
+use Rattle.shape.proofs.Ranges.{halves, ranged, in-range}
 use Rattle.shape.specs.Sizes.{in_range, sheets_of, nodes_of}
 use Rattle.steps.specs.Steps.{Table, namer, slot_in}
 use Rattle.steps.specs.Suited.{Suited}
@@ -17,7 +17,7 @@ use Rattle.closure.specs.Facts.{Facts, facts}
 use Rattle.closure.specs.Lower.{top}
 use Rattle.flat.specs.Entries.{state_of}
 use Rattle.shows.specs.Shows.{Shows}
-use Rattle.shows.specs.Sinks.{goes-up}
+use Rattle.shows.proofs.Sinks.{goes-up}
 use Rattle.plan.specs.Filled.{sheets-are, sheet-most}
 use Rattle.round_step.specs.Falls.{NoneAbove}
 

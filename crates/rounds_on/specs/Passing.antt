@@ -12,7 +12,8 @@ use Rattle.window.specs.declared.Window.{Window}
 use Rattle.decoding.specs.Decoding.{Line, turned_back, Recorded, wrote, stopped, recorded, record_at, Rounds, rounds}
 use Rattle.decoding.specs.Answers.{RecordAnswer, over, RecordReturned, record_returned, recorded_leaves, record_leaves, RoundsReturned, rounds_returned, rounds_leave}
 use Rattle.decoding.specs.Answers as answers
-use Rattle.decoding.specs.LawsDecoding.{record-tested, record-unformed, record-forward, rounds-more, rounds-stop}
+use Rattle.decoding.specs.LawsDecoding.{record-tested, record-unformed}
+use Rattle.decoding.proofs.LawsDecoding.{record-forward, rounds-more, rounds-stop}
 use Rattle.rounds_on.specs.Laid.{laid_none, laid-long, laid_more}
 
 -- a record that is written: the rounds go on behind it

@@ -1,7 +1,7 @@
 -- WHAT LIES OVER AN OPEN EDGE of a shown window's node is a node. Assumes nothing.
 use Rattle.std.specs.Prelude.{ℕ, ◌+◌, ◌-◌, ◌<◌, ◌≡◌, true, eqb, length}
 use Rattle.std.proofs.Common.{arith, sym, ◌∙◌, ap}
-use Rattle.shape.specs.Ranges.{halves}
+use Rattle.shape.proofs.Ranges.{halves}
 use Rattle.steps.specs.Steps.{Table}
 use Rattle.steps.specs.Suited.{Suited}
 use Rattle.window.specs.Window.{size, to}
@@ -14,7 +14,7 @@ use Rattle.queue.specs.Queue.{Inside}
 use Rattle.shows.specs.Planned.{Planned}
 use Rattle.shows.specs.Shows.{Shows}
 use Rattle.shows.specs.Riding.{opens}
-use Rattle.shows.specs.Read.{place-node, node-within-entry, flat-entry, flat-open}
+use Rattle.shows.proofs.Read.{place-node, node-within-entry, flat-entry, flat-open}
 
 pub open-inside : (T : Table) → Suited T → (P : Plan) (w : Window) (st : State) → Kept T w → Planned T w.shape.height w.shape.distance P → Shows T w st
     → (x : ℕ) → within (size w) x ≡ true → Inside P st.growth x P.dirs (size w)

@@ -8,12 +8,12 @@ use Rattle.refusal.specs.declared.Refusal.{Refusal}
 use Rattle.list.specs.Sheet.{listed}
 use Rattle.shape.specs.declared.Shape.{Shape}
 use Rattle.record.specs.Records.{header, header_at, result}
-use Rattle.record.specs.Laws.{length-header}
+use Rattle.record.proofs.Laws.{length-header}
 use Rattle.trip.specs.Streams.{records_at, stream_of, round_of, result_of}
 use Rattle.trip.specs.Fits.{RoundFits, RecordFits}
 use Rattle.trip.specs.Header.{HeaderWrites, header-writes}
 use Rattle.trip.specs.Trip.{Kind, on_more, on_record, records-steps, on_records, on_header, stream-steps}
-use Rattle.trip.specs.Kinds.{round-kind, result-kind}
+use Rattle.trip.proofs.RoundKinds.{round-kind, result-kind}
 use Rattle.scan.specs.Scanned.{Scanned, scanned, counted, counted_from, passed_by, counted_by, scanned_by}
 use Rattle.scan.specs.declared.Round.{Round}
 use Rattle.scan.specs.declared.Round.TheVariants as round

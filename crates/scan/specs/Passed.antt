@@ -5,7 +5,7 @@ use Rattle.refusal.specs.Answer.{Answer, done, ended, refused, refused_at, witho
 use Rattle.refusal.specs.Tests.{Passes}
 use Rattle.refusal.specs.Writing.{Buffered, buffered}
 use Rattle.list.specs.Sheet.{read_into}
-use Rattle.shape.specs.Ranges.{halves}
+use Rattle.shape.proofs.Ranges.{halves}
 use Rattle.shape.specs.Sizes.{IsShape, height_ok, distance_ok}
 use Rattle.shape.specs.declared.Shape.{Shape}
 use Rattle.record.specs.Calls.{round_answer, result_answer, place_tests, defects_test, edges_test, escapes_test, read_round, read_result, ResultBuffered, result_buffered, read_into_both, steps_of}

@@ -17,7 +17,7 @@ use Rattle.refusal.specs.Holds.{hold-pass}
 use Rattle.number.specs.Number.{written_buffered}
 use Rattle.number.specs.declared.Wrote.{Wrote}
 use Rattle.number.specs.declared.Wrote.TheVariants as wrote_to
-use Rattle.shape.specs.Ranges.{halves}
+use Rattle.shape.proofs.Ranges.{halves}
 use Rattle.shape.specs.Sizes.{IsShape, height_ok, distance_ok}
 use Rattle.steps.specs.Models.{of_model}
 use Rattle.shape.specs.declared.Shape.{Shape}
@@ -29,7 +29,7 @@ use Rattle.record.specs.declared.HeaderRead.TheVariants as header_read
 use Rattle.window.specs.Fresh.{fresh_window}
 use Rattle.decoding.specs.Decoding.{Line, turned_back, Rounds, rounds, Decoded, decoded}
 use Rattle.decoding.specs.Answers.{RoundsReturned, rounds_returned, decode_returned, output_leaves, decode_leaves}
-use Rattle.decoding.specs.LawsDecoding.{decoded-turned, decoded-full, decoded-on}
+use Rattle.decoding.proofs.LawsDecoding.{decoded-turned, decoded-full, decoded-on}
 use Rattle.one_record.proofs.Writers.{writer-full, writer-wrote}
 use Rattle.rounds_on.specs.Laid.{laid-long, laid_more}
 use Rattle.session.specs.Ends.{Ends}

@@ -2,12 +2,9 @@ pub mod Choice
 pub mod Sizes
 pub mod Nodes
 pub mod Limits
-pub mod Cases
 pub mod Ranges
 pub mod Counting
-pub mod LawsSizes
 pub mod Totals
 pub mod Boundaries
-pub mod LawsIndex
 pub mod LawsNumber
 pub mod Printed

@@ -5,10 +5,12 @@ use Rattle.std.proofs.Common.{div-lt_iff_lt-mul, mul-one, mul_assoc, sym, ◌∙
 use native.Mathlib.Omega.{arith}
 use Rattle.std.proofs.Math.Path.{refl, ap}
 use Rattle.shape.specs.Nodes.{index_of}
-use Rattle.shape.specs.Ranges.{Ranged, nodes-of}
+use Rattle.shape.specs.Ranges.{Ranged}
+use Rattle.shape.proofs.Ranges.{nodes-of}
 use Rattle.shape.specs.Sizes.{sheets_of, detectors_of}
 use Rattle.steps.specs.Steps.{Table, step, namer}
-use Rattle.layers.specs.Layers.{node_of, edge_of, layer_edges, number-has, spans-inside}
+use Rattle.layers.specs.Layers.{node_of, edge_of, layer_edges}
+use Rattle.layers.proofs.Layers.{number-has, spans-inside}
 use Rattle.window.specs.Lists.{from, by_place, bit}
 use Rattle.window.specs.Round.{edge_slot, detector_at, committed_edges, escaped_defects}
 use Rattle.window.specs.Window.{size, sheet, at}

@@ -3,7 +3,7 @@ use Rattle.std.specs.Prelude.{ℕ, ◌+◌, ◌-◌, ◌<◌, ◌≡◌, refl, B
 use Rattle.std.proofs.Common.{arith, sym, ◌∙◌, ap, subst, eqb-true}
 use Rattle.refusal.specs.Laws.{undone}
 use Rattle.shape.specs.Choice.{if, whether}
-use Rattle.shape.specs.Ranges.{halves, both}
+use Rattle.shape.proofs.Ranges.{halves, both}
 use Rattle.shape.specs.Nodes.{number_of}
 use Rattle.shape.specs.Sizes.{boundary}
 use Rattle.steps.specs.Steps.{Table, step}

@@ -5,15 +5,17 @@ use native.Mathlib.Omega.{arith}
 use Rattle.std.proofs.Math.Path.{sym}
 use borrow.Author.Tests.{eqb-true, eq-eqb, ltb-true, lt-ltb, leb-true, le-leb}
 use Rattle.shape.specs.Choice.{whether, order}
-use Rattle.shape.specs.LawsIndex.{index-place, index-lt, index-inside}
-use Rattle.shape.specs.Ranges.{Ranged, halves, both, nodes-of}
+use Rattle.shape.proofs.LawsIndex.{index-place, index-lt, index-inside}
+use Rattle.shape.specs.Ranges.{Ranged}
+use Rattle.shape.proofs.Ranges.{halves, both, nodes-of}
 use Rattle.shape.specs.Sizes.{sheets_of}
 use Rattle.steps.specs.Steps.{Table, step, goes, across, namer}
 use Rattle.steps.specs.declared.Step.{Step}
 use Rattle.window.specs.Round.{at_top, rounded}
 use Rattle.window.specs.Window.{size, sheet, place, bottom, to}
 use Rattle.window.specs.declared.Window.{Window}
-use Rattle.layers.specs.Layers.{spans, joins-spans, spans-joins}
+use Rattle.layers.specs.Layers.{spans}
+use Rattle.layers.proofs.Layers.{joins-spans, spans-joins}
 use Rattle.closure.specs.Closure.{Kept}
 use Rattle.closure.specs.Edges.{edge, edge-there}
 use Rattle.closure.specs.Facts.{Facts, facts, inside-at}

@@ -5,7 +5,7 @@ use Rattle.std.proofs.lemmas.Bool.{not-true}
 use Rattle.std.proofs.lemmas.List.{length-replicate, get_or-replicate}
 use Rattle.refusal.specs.Laws.{undone}
 use Rattle.shape.specs.Choice.{if-false, whether, order}
-use Rattle.shape.specs.Ranges.{halves}
+use Rattle.shape.proofs.Ranges.{halves}
 use Rattle.shape.specs.Sizes.{max_nodes}
 use Rattle.steps.specs.Steps.{Table, namer, slot_in, slot_kind, slot_node}
 use Rattle.window.specs.Lists.{over, all}

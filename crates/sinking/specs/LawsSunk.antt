@@ -5,8 +5,9 @@ use Rattle.std.proofs.Math.Logic.{⊎_elim}
 use borrow.Author.Tests.{lt-ltb, le-ltb, le-leb, lt-leb}
 use Rattle.shape.specs.Choice.{order}
 use Rattle.shape.specs.Sizes.{max_height, sheets_of, max_sheets, max_detectors}
-use Rattle.shape.specs.Ranges.{Ranged, sheets-le}
-use Rattle.shape.specs.LawsSizes.{detectors-le}
+use Rattle.shape.specs.Ranges.{Ranged}
+use Rattle.shape.proofs.Ranges.{sheets-le}
+use Rattle.shape.proofs.LawsSizes.{detectors-le}
 use Rattle.window.specs.Round.{lowered_number}
 use Rattle.flat.specs.Codes.{active_of, defect_of, unrooted_of, pointer_of}
 use Rattle.sinking.specs.Sunk.{settled, thresholds_of, Ordered, lowered_by}

@@ -1,2 +1,1 @@
 -- what the arrays hold before the first round
-pub mod Starts

@@ -2,11 +2,9 @@ pub mod Steps
 pub mod Slots
 pub mod Joins
 pub mod Proper
-pub mod LawsStep
 pub mod Offsets
 pub mod Suited
 pub mod ByPlace
 pub mod Ranks
 pub mod Moves
-pub mod Suits
 pub mod Models

@@ -1,7 +1,7 @@
 -- The tables of steps that the laws hold for, and the direction in which a node names its edge of a kind: the one that the table says. Assumes nothing.
 use Rattle.std.specs.Prelude.{ℕ, suc, ◌+◌, ◌≤◌, ◌<◌, ◌≡◌, refl, Bool, true, false, ◌&&◌, not, List, [], ◌∷◌, eqb, length, get_or}
 use Rattle.std.proofs.Common.{arith, sym, ◌∙◌, ap, subst, eqb-true}
-use Rattle.shape.specs.Ranges.{halves}
+use Rattle.shape.proofs.Ranges.{halves}
 use Rattle.steps.specs.Steps.{Table, step, here, stays, naming, namer}
 use Rattle.steps.specs.Proper.{Points, Proper}
 use Rattle.steps.specs.declared.Step.{Step}

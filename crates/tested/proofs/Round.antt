@@ -16,7 +16,7 @@ use Rattle.shape.specs.Choice.{order}
 use Rattle.shape.specs.Sizes.{detectors_of, layer_edges_of}
 use Rattle.steps.specs.Models.{of_model}
 use Rattle.layers.specs.Layers.{layer_edges}
-use Rattle.layers.specs.Document.{count-model}
+use Rattle.layers.proofs.Document.{count-model}
 use Rattle.list.specs.Sheet.{are_bits}
 use Rattle.window.specs.Window.{is_rest, max_next}
 use Rattle.window.specs.Formed.{well_formed}

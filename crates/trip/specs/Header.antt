@@ -9,10 +9,10 @@ use Rattle.refusal.specs.Filling.{drop-part}
 use Rattle.number.specs.Number.{written, number_at}
 use Rattle.number.specs.Trip.{number-reads, number-writes, number-no-end}
 use Rattle.shape.specs.Sizes.{IsShape, max_height, max_distance, height_ok, distance_ok, model_ok, shape_by}
-use Rattle.shape.specs.Ranges.{halves, height-ok, distance-ok, model-ok}
+use Rattle.shape.proofs.Ranges.{halves, height-ok, distance-ok, model-ok}
 use Rattle.shape.specs.declared.Shape.{Shape}
 use Rattle.record.specs.Records.{header, on_model, on_distance, on_height, header_at}
-use Rattle.record.specs.Laws.{header-steps, header-next, distance_next, header-done}
+use Rattle.record.proofs.Laws.{header-steps, header-next, distance_next, header-done}
 
 -- A SHAPE IN RANGE
 

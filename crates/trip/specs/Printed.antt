@@ -3,6 +3,7 @@ use Rattle.std.specs.Prelude.{◌≡◌, refl, [], ◌∷◌}
 use Rattle.refusal.specs.Answer.{refused, refused_at}
 use Rattle.number.specs.Number.{written, number_at}
 use Rattle.shape.specs.Printed as shape
+use Rattle.shape.proofs.Printed.{printed as shapes_printed}
 use Rattle.record.specs.Records.{header_at}
 
 pub record Printed : Type 0 where
@@ -26,7 +27,7 @@ pub printed : Printed
 unfolding written number_at header_at
 printed =
     record {
-      shapes = shape.printed;
+      shapes = shapes_printed;
       written-127 = refl;
       written-128 = refl;
       not-shortest = refl;

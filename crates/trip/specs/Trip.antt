@@ -16,7 +16,7 @@ use Rattle.shape.specs.declared.Shape.{Shape}
 use Rattle.record.specs.Records.{header, header_at}
 use Rattle.trip.specs.Streams.{Stream, all_bytes, records_at, stream_of, bytes_of}
 use Rattle.trip.specs.Fits.{Each, Fits}
-use Rattle.record.specs.Laws.{length-header}
+use Rattle.record.proofs.Laws.{length-header}
 use Rattle.trip.specs.Header.{header-reads, HeaderWrites, header-writes, header-no-end}
 
 -- what a record that is read tells of the bytes

@@ -3,11 +3,12 @@ use Rattle.std.specs.Prelude.{ℕ, ◌+◌, ◌-◌, ◌*◌, ◌≤◌, ◌<◌
 use Rattle.std.proofs.Common.{arith, ◌∙◌, ap, subst, leb-true}
 use Rattle.std.proofs.Math.Path.{sym}
 use Rattle.shape.specs.Choice.{if}
-use Rattle.shape.specs.Ranges.{halves}
+use Rattle.shape.proofs.Ranges.{halves}
 use Rattle.shape.specs.Sizes.{nodes_of}
 use Rattle.shape.specs.declared.Shape.{Shape}
 use Rattle.steps.specs.Steps.{Table}
-use Rattle.steps.specs.Models.{of_model, suited-model}
+use Rattle.steps.specs.Models.{of_model}
+use Rattle.steps.proofs.Models.{suited-model}
 use Rattle.window.specs.Grow.{grown}
 use Rattle.window.specs.Round.{rounded}
 use Rattle.window.specs.Run.{steps_from, ran}
@@ -25,9 +26,11 @@ use Rattle.shows.specs.Grown.{cuts_at, Grows}
 use Rattle.shows.specs.Changed.{Enlists}
 use Rattle.shows.specs.Pass.{Going}
 use Rattle.shows.specs.Planned.{Planned}
-use Rattle.shows.specs.Run.{Over, ran-round}
-use Rattle.shows.specs.Sinks.{second_there, Sinks, sinks-shows}
-use Rattle.shows.specs.Turn.{Held, turn-kept, turn-shows, turn-going}
+use Rattle.shows.proofs.Run.{Over, ran-round}
+use Rattle.shows.specs.Sinks.{second_there, Sinks}
+use Rattle.shows.proofs.Sinks.{sinks-shows}
+use Rattle.shows.specs.Turn.{Held}
+use Rattle.shows.proofs.Turn.{turn-kept, turn-shows, turn-going}
 use Rattle.queue.specs.Queue.{Inside}
 use Rattle.round_step.specs.Falls.{NoneAbove}
 use Rattle.round_step.specs.LawsFalls.{none_above}

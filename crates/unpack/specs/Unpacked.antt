@@ -7,9 +7,9 @@ use Rattle.std.proofs.lemmas.Bool.{not-true}
 use Rattle.std.proofs.lemmas.List.{length-replicate, get_or-replicate}
 use Rattle.shape.specs.Choice.{whether, order}
 use Rattle.shape.specs.Counting.{Inside, before}
-use Rattle.shape.specs.LawsIndex.{index-place, nodes-max}
+use Rattle.shape.proofs.LawsIndex.{index-place, nodes-max}
 use Rattle.shape.specs.Nodes.{index_of}
-use Rattle.shape.specs.Ranges.{in-range, halves, both, nodes-of, sheets-le}
+use Rattle.shape.proofs.Ranges.{in-range, halves, both, nodes-of, sheets-le}
 use Rattle.shape.specs.Sizes.{in_range, sheets_of}
 use Rattle.shape.specs.declared.Place.{Place}
 use Rattle.steps.specs.Steps.{Table, namer, slot_in}
@@ -30,7 +30,8 @@ use Rattle.flat.specs.declared.Sizes.{Sizes}
 use Rattle.flat.specs.Stored.{stored, length-stored, stored_at}
 use Rattle.shows.specs.Shows.{held}
 use Rattle.shows.specs.Sinks.{rises}
-use Rattle.shows.specs.There.{starts_at, there-is}
+use Rattle.shows.specs.There.{starts_at}
+use Rattle.shows.proofs.There.{there-is}
 use Rattle.shows.specs.Written.{Written}
 use Rattle.plan.specs.Filled.{Filled, sheet-most}
 use Rattle.plan.specs.Table.{sizes_of, fresh_by}

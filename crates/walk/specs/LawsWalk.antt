@@ -7,11 +7,12 @@ use Rattle.std.proofs.Math.Logic.{⊎_elim}
 use borrow.Author.Tests.{lt-ltb, le-ltb}
 use Rattle.shape.specs.Choice.{order, if-false}
 use Rattle.shape.specs.Sizes.{sheets_of, in_range, nodes_in, nodes_of, max_sheets, max_nodes, max_numbers}
-use Rattle.shape.specs.Ranges.{Ranged, ranged, nodes-of, sheets-le}
+use Rattle.shape.specs.Ranges.{Ranged}
+use Rattle.shape.proofs.Ranges.{ranged, nodes-of, sheets-le}
 use Rattle.shape.specs.Counting.{Inside}
 use Rattle.shape.specs.Nodes.{index_of, place_at, number_of}
-use Rattle.shape.specs.LawsIndex.{index-place, place-index, index-inside, index-lt, window-le, numbers-le}
-use Rattle.shape.specs.LawsNumber.{number_lt}
+use Rattle.shape.proofs.LawsIndex.{index-place, place-index, index-inside, index-lt, window-le, numbers-le}
+use Rattle.shape.proofs.LawsNumber.{number_lt}
 use Rattle.shape.specs.declared.Place.{Place}
 use Rattle.walk.specs.Walk.{place_after, Stands}
 

@@ -4,7 +4,8 @@ use Rattle.shape.specs.Sizes.{sheets_of, nodes_of, max_nodes, max_detectors}
 use Rattle.shape.specs.Nodes.{number_of, place_at}
 use Rattle.shape.specs.declared.Shape.{Shape}
 use Rattle.steps.specs.Steps.{Table, base}
-use Rattle.steps.specs.Models.{circuit, of_model, of-both}
+use Rattle.steps.specs.Models.{circuit, of_model}
+use Rattle.steps.proofs.Models.{of-both}
 use Rattle.window.specs.Lists.{over}
 use Rattle.window.specs.Window.{alone, unused, max_slots}
 use Rattle.window.specs.declared.Stage.TheVariants.{Rest}

@@ -4,7 +4,7 @@ use Rattle.std.proofs.Common.{sym, ◌∙◌, ⊎_elim}
 use Rattle.shape.specs.Choice.{tell}
 use Rattle.shape.specs.declared.Place.{Place}
 use Rattle.steps.specs.Steps.{Table, step, joined}
-use Rattle.steps.specs.Joins.{near-at, near_none}
+use Rattle.steps.proofs.Joins.{near-at, near_none}
 use Rattle.window.specs.Window.{reach}
 
 module _ (T : Table) (h d k p : ℕ) (q : Place) where

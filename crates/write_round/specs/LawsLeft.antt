@@ -11,16 +11,18 @@ use Rattle.refusal.specs.Writing.{Buffered}
 use Rattle.shape.specs.Choice.{order}
 use Rattle.shape.specs.Counting.{before}
 use Rattle.shape.specs.Nodes.{index_of}
-use Rattle.shape.specs.Ranges.{Ranged, ranged, halves}
+use Rattle.shape.specs.Ranges.{Ranged}
+use Rattle.shape.proofs.Ranges.{ranged, halves}
 use Rattle.shape.specs.Sizes.{in_range, sheets_of, detectors_of, layer_edges_of, nodes_of}
-use Rattle.shape.specs.Totals.{by-sheets}
+use Rattle.shape.proofs.Totals.{by-sheets}
 use Rattle.shape.specs.declared.Shape.{Shape}
 use Rattle.list.specs.Sheet.{are_bits}
 use Rattle.record.specs.Calls.{write_result, as_result}
 use Rattle.steps.specs.Steps.{step, namer}
 use Rattle.steps.specs.Models.{of_model}
-use Rattle.layers.specs.Document.{count-model}
-use Rattle.layers.specs.Layers.{edge_of, layer_edges, number-has, spans-inside}
+use Rattle.layers.proofs.Document.{count-model}
+use Rattle.layers.specs.Layers.{edge_of, layer_edges}
+use Rattle.layers.proofs.Layers.{number-has, spans-inside}
 use Rattle.window.specs.Lists.{from, by_place, every, any, bit}
 use Rattle.window.specs.LawsLists.{length-by, bits-by, every-none, every-at}
 use Rattle.window.specs.Round.{committed_edges, escaped_defects}

@@ -1,6 +1,6 @@
 -- `bound::bound_of` meets its contract. Assumes nothing.
 use borrow.Author.Rules.{rules}
-use Rattle.shape.specs.LawsIndex.{nodes-max}
+use Rattle.shape.proofs.LawsIndex.{nodes-max}
 use Rattle.bound.proofs.bound_of.Goals as goal
 
 pub overflow_mul-result : goal.overflow_mul-result

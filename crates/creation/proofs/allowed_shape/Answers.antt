@@ -5,7 +5,7 @@ use Rattle.refusal.specs.Answer.{turned}
 use Rattle.refusal.specs.Laws.{turned-not}
 use Rattle.shape.specs.Sizes.{shape_answer}
 use Rattle.shape.specs.declared.Shape.{Shape}
-use Rattle.creation.specs.Laws.{shape-first, limits-decide}
+use Rattle.creation.proofs.Laws.{shape-first, limits-decide}
 use Rattle.creation.proofs.allowed_shape.Goals as goal
 
 pub returns-then-not-limits_allow : goal.returns-then-not-limits_allow

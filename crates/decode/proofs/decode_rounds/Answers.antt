@@ -4,7 +4,7 @@ use Rattle.std.proofs.lemmas.Grind.{common_steps}
 use Rattle.steps.specs.Models.{of_model}
 use Rattle.decoding.specs.Answers.{RoundsReturned}
 use Rattle.decoding.specs.Decoding.{rounds}
-use Rattle.decoding.specs.Resumed.{onward}
+use Rattle.decoding.proofs.Resumed.{onward}
 use Rattle.decode.proofs.decode_rounds.Invariants.{bound}
 use Rattle.decode.proofs.decode_rounds.Goals as goal
 

@@ -1,7 +1,7 @@
 -- `extent::in_range` meets its contract.
 -- Assumes nothing.
 use mathlib.Core.Path.{sym, ◌∙◌}
-use Rattle.shape.specs.Cases.{no-height, no_distance, no-model, fine}
+use Rattle.shape.proofs.Cases.{no-height, no_distance, no-model, fine}
 use Rattle.extent.proofs.in_range.Goals as goal
 
 pub returns-then-not-height_ok : goal.returns-then-not-height_ok

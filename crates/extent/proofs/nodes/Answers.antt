@@ -2,7 +2,7 @@
 use mathlib.Core.Path.{sym, ◌∙◌}
 use Rattle.shape.specs.Choice.{if-false}
 use Rattle.shape.specs.Sizes.{in_range}
-use Rattle.shape.specs.Ranges.{ranged, nodes-of}
+use Rattle.shape.proofs.Ranges.{ranged, nodes-of}
 use Rattle.extent.proofs.nodes.Goals as goal
 
 pub returns-then-not-ranged : goal.returns-then-not-ranged

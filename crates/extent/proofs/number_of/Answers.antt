@@ -1,7 +1,7 @@
 -- `extent::number_of` meets its contract.
 -- Assumes nothing.
 use mathlib.Core.Path.{sym, ◌∙◌}
-use Rattle.shape.specs.Cases.{number-side, number-inner}
+use Rattle.shape.proofs.Cases.{number-side, number-inner}
 use Rattle.extent.proofs.number_of.Goals as goal
 
 pub returns-then-is_boundary : goal.returns-then-is_boundary

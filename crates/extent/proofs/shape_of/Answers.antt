@@ -1,9 +1,9 @@
 -- `extent::shape_of` meets its contract.
 -- Assumes nothing.
 use mathlib.Core.Path.{sym, ◌∙◌}
-use Rattle.shape.specs.Cases.{no-height, no_distance, no-model, fine}
+use Rattle.shape.proofs.Cases.{no-height, no_distance, no-model, fine}
 use native.Mathlib.Omega.{arith}
-use Rattle.shape.specs.Ranges.{height-ok, distance-ok, model-ok}
+use Rattle.shape.proofs.Ranges.{height-ok, distance-ok, model-ok}
 use Rattle.extent.proofs.shape_of.Goals as goal
 
 pub returns-then-not-height_ok : goal.returns-then-not-height_ok

@@ -7,7 +7,7 @@ use lib.Dec.{eqb}
 use Rattle.shape.specs.Choice.{if-true, if-false}
 use Rattle.shape.specs.Sizes.{sheets_of, boundary, nodes_in}
 use Rattle.shape.specs.Nodes.{number_of}
-use Rattle.shape.specs.Ranges.{halves, both}
+use Rattle.shape.proofs.Ranges.{halves, both}
 use Rattle.steps.specs.Steps.{Table}
 use Rattle.steps.specs.Models.{of_model}
 use Rattle.shape.specs.declared.Place.{Place}

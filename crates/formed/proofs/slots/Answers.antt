@@ -4,8 +4,8 @@ use Prim.Native.Nat.{ℕ, ◌*◌, ◌≤◌}
 use native.Mathlib.Nat.{mul-le-mul}
 use native.Mathlib.Omega.{arith}
 use Rattle.shape.specs.Sizes.{max_nodes}
-use Rattle.shape.specs.LawsIndex.{nodes-max}
-use Rattle.steps.specs.Models.{few-kinds}
+use Rattle.shape.proofs.LawsIndex.{nodes-max}
+use Rattle.steps.proofs.Models.{few-kinds}
 use Rattle.formed.proofs.slots.Goals as goal
 
 times : (a b x y : ℕ) → a ≡ x → b ≡ y → a * b ≡ x * y

@@ -6,9 +6,9 @@ use native.Mathlib.Omega.{arith}
 use lib.ListN.{length, get_or}
 use native.Mathlib.Nat.{le_antisymm, mul-le-mul}
 use Rattle.shape.specs.Sizes.{max_nodes}
-use Rattle.shape.specs.Ranges.{both}
-use Rattle.shape.specs.LawsIndex.{nodes-max}
-use Rattle.steps.specs.Models.{few-kinds}
+use Rattle.shape.proofs.Ranges.{both}
+use Rattle.shape.proofs.LawsIndex.{nodes-max}
+use Rattle.steps.proofs.Models.{few-kinds}
 use Rattle.shape.specs.declared.Place.{Place}
 use Rattle.walk.specs.Walk.{Stands}
 use Rattle.walk.specs.LawsWalk.{first-place, walks, stands, peopled, depth_low}

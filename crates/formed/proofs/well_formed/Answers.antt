@@ -8,7 +8,7 @@ use borrow.Author.Tests.{le-leb, lt-leb}
 use lib.ListN.{drop}
 use lib.Dec.{leb}
 use Rattle.shape.specs.Sizes.{sheets_of, in_range, model_ok, detectors_of}
-use Rattle.shape.specs.LawsIndex.{nodes-max}
+use Rattle.shape.proofs.LawsIndex.{nodes-max}
 use Rattle.steps.specs.Steps.{Table}
 use Rattle.steps.specs.Models.{of_model}
 use Rattle.window.specs.declared.Window.{Window}

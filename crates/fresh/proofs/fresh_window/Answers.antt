@@ -4,7 +4,7 @@ use Prim.Native.Nat.{ℕ, ◌≤◌, ◌<◌, ◌+◌}
 use native.Mathlib.Omega.{arith}
 use lib.ListN.{length, replicate, length-replicate}
 use Rattle.shape.specs.Sizes.{nodes_of, max_nodes}
-use Rattle.shape.specs.Ranges.{ranged, sheets-le}
+use Rattle.shape.proofs.Ranges.{ranged, sheets-le}
 use Rattle.walk.specs.Walk.{Stands}
 use Rattle.walk.specs.LawsWalk.{first-place, stands_at, stands-low, depth_low, walks-on}
 use Rattle.window.specs.LawsLists.{over_none, over-next}

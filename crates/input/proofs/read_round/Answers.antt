@@ -15,7 +15,7 @@ use Rattle.shape.specs.Sizes.{detectors_of}
 use Rattle.shape.specs.declared.Shape.{Shape}
 use Rattle.record.specs.Records.{round_at}
 use Rattle.record.specs.Calls.{place_tests, defects_test, read_round}
-use Rattle.record.specs.Laws.{at-end, before-end, round-turned}
+use Rattle.record.proofs.Laws.{at-end, before-end, round-turned}
 use Rattle.record.proofs.Places.{place-turned, place-passes}
 use Rattle.input.proofs.read_round.Goals as goal
 

@@ -5,9 +5,9 @@ use native.Mathlib.Omega.{arith}
 use native.Mathlib.Nat.{mul-le-mul_right}
 use lib.ListN.{length}
 use mathlib.Core.List.{List}
-use Rattle.shape.specs.Ranges.{ranged}
+use Rattle.shape.proofs.Ranges.{ranged}
 use Rattle.shape.specs.Sizes.{detectors_of}
-use Rattle.shape.specs.LawsSizes.{detectors-le}
+use Rattle.shape.proofs.LawsSizes.{detectors-le}
 use Rattle.window.specs.Lists.{over}
 use Rattle.window.specs.LawsLists.{over_none, length_over}
 use Rattle.flat.specs.LawsEntries.{one_more, row_fits, row_low}

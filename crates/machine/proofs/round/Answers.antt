@@ -3,7 +3,8 @@ use native.Mathlib.Omega.{arith}
 use mathlib.Core.Path.{◌≡◌, refl}
 use mathlib.Core.Bool.{true}
 use Rattle.shape.specs.Sizes.{in_range}
-use Rattle.steps.specs.Models.{of_model, suited-model, few-kinds}
+use Rattle.steps.specs.Models.{of_model}
+use Rattle.steps.proofs.Models.{suited-model, few-kinds}
 use Rattle.closure.specs.Closure.{Kept}
 use Rattle.flat.specs.Entries.{state_of}
 use Rattle.shows.specs.Shows.{Shows}

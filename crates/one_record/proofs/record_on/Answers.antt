@@ -8,8 +8,8 @@ use lib.ListN.{length, take, replicate}
 use Rattle.refusal.specs.Answer.{done}
 use Rattle.refusal.specs.Bytes.{Bytes}
 use Rattle.refusal.specs.Writing.{buffered}
-use Rattle.shape.specs.LawsSizes.{detectors-le}
-use Rattle.shape.specs.Ranges.{ranged}
+use Rattle.shape.proofs.LawsSizes.{detectors-le}
+use Rattle.shape.proofs.Ranges.{ranged}
 use Rattle.shape.specs.Sizes.{max_detectors, detectors_of}
 use Rattle.window.specs.LawsLists.{Fills, part-fits, part-back, part-long}
 use Rattle.list.specs.Sheet.{read_into}

@@ -3,7 +3,8 @@ use mathlib.Core.Path.{◌≡◌, ◌∙◌, ap}
 use Prim.Native.Nat.{ℕ, ◌≤◌, ◌<◌, ◌+◌}
 use native.Mathlib.Omega.{arith}
 use Rattle.pack.specs.Packed.{bit_rule, kind-first, kind-next, slots-low, kinds-are}
-use Rattle.steps.specs.Models.{of_model, few-kinds}
+use Rattle.steps.specs.Models.{of_model}
+use Rattle.steps.proofs.Models.{few-kinds}
 use Rattle.window.specs.Lists.{over}
 use lib.ListN.{get_or}
 use Rattle.flat.specs.Codes.{correction_of}

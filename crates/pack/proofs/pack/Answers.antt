@@ -3,7 +3,7 @@ use mathlib.Core.Path.{sym, ◌∙◌, ap, subst}
 use Prim.Native.Nat.{ℕ, ◌≤◌, ◌<◌}
 use native.Mathlib.Omega.{arith}
 use Rattle.pack.specs.Packed.{node_rule, packed}
-use Rattle.shape.specs.LawsIndex.{nodes-max}
+use Rattle.shape.proofs.LawsIndex.{nodes-max}
 use Rattle.window.specs.LawsLists.{over_none, over-next}
 use Rattle.window.specs.Window.{unused}
 use Rattle.window.specs.declared.Node.{Node}

@@ -4,9 +4,9 @@ use native.Mathlib.Omega.{arith}
 use Rattle.flat.specs.declared.Sizes.{Sizes}
 use Rattle.plan.specs.Filled.{sheets-are, bottom-low, filled-by}
 use Rattle.steps.specs.Models.{of_model}
-use Rattle.steps.specs.Models.{suited-model}
+use Rattle.steps.proofs.Models.{suited-model}
 use Rattle.plan.specs.Limits.{roomy-model}
-use Rattle.shape.specs.LawsIndex.{nodes-max}
+use Rattle.shape.proofs.LawsIndex.{nodes-max}
 use Rattle.plan.proofs.fill.Goals as goal
 
 pub numbers-requires : goal.numbers-requires

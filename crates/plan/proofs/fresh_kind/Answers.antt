@@ -5,7 +5,7 @@ use native.Mathlib.Omega.{arith}
 use Rattle.plan.specs.Passes.{rows_start, rows_next, blocks-none, blocks-next, blocks-are}
 use Rattle.plan.specs.Table.{fresh_in, area_of}
 use Rattle.plan.specs.Limits.{sheet-low}
-use Rattle.shape.specs.Ranges.{ranged}
+use Rattle.shape.proofs.Ranges.{ranged}
 use Rattle.steps.specs.Models.{of_model}
 use Rattle.layers.specs.Boxes.{named}
 use Rattle.plan.proofs.fresh_kind.Lts as lts

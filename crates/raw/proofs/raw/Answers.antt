@@ -7,7 +7,7 @@ use mathlib.Core.List.{List}
 use lib.ListN.{length, take, replicate}
 use lib.Seq.{length-take-le}
 use Rattle.shape.specs.Sizes.{max_detectors}
-use Rattle.shape.specs.LawsSizes.{detectors-le}
+use Rattle.shape.proofs.LawsSizes.{detectors-le}
 use Rattle.steps.specs.Models.{of_model}
 use Rattle.window.specs.LawsLists.{Fills, part-fits, part-back, part-long}
 use Rattle.window.specs.Measured.{differences, as_sheet, with_sheet, measuring}

@@ -3,9 +3,9 @@ use mathlib.Core.Path.{◌≡◌, sym, ◌∙◌, ap}
 use mathlib.Core.Bool.{true}
 use native.Mathlib.Omega.{arith}
 use Rattle.number.specs.Number.{number_answer}
-use Rattle.shape.specs.Ranges.{height-ok}
+use Rattle.shape.proofs.Ranges.{height-ok}
 use Rattle.shape.specs.Sizes.{height_ok}
-use Rattle.record.specs.Laws.{height-wrong, distance-turned, distance_next}
+use Rattle.record.proofs.Laws.{height-wrong, distance-turned, distance_next}
 use Rattle.record.proofs.header_from.Lts as lts
 use Rattle.record.proofs.header_from.Tie as tie
 use Rattle.record.proofs.header_from.Reads as reads

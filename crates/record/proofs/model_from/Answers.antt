@@ -3,9 +3,9 @@ use mathlib.Core.Path.{◌≡◌, sym, ◌∙◌, ap}
 use mathlib.Core.Bool.{true}
 use native.Mathlib.Omega.{arith}
 use Rattle.number.specs.Number.{number_answer}
-use Rattle.shape.specs.Ranges.{distance-ok, model-ok}
+use Rattle.shape.proofs.Ranges.{distance-ok, model-ok}
 use Rattle.shape.specs.Sizes.{distance_ok}
-use Rattle.record.specs.Laws.{distance-wrong, model-turned, model-wrong, header-done}
+use Rattle.record.proofs.Laws.{distance-wrong, model-turned, model-wrong, header-done}
 use Rattle.record.proofs.model_from.Lts as lts
 use Rattle.record.proofs.model_from.Tie as tie
 use Rattle.record.proofs.model_from.Reads as reads

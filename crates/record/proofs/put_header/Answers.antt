@@ -12,7 +12,7 @@ use Rattle.number.specs.Number.{written}
 use Rattle.number.specs.Laws.{length-written}
 use Rattle.shape.specs.declared.Shape.{Shape}
 use Rattle.record.specs.Records.{header}
-use Rattle.record.specs.Laws.{header_is, header-long}
+use Rattle.record.proofs.Laws.{header_is, header-long}
 use Rattle.record.proofs.put_header.Lts as lts
 use Rattle.record.proofs.put_header.Tie as tie
 use Rattle.record.proofs.put_header.Reads as reads

@@ -1,7 +1,7 @@
 -- `record::read_header` meets its contract. Assumes nothing.
 use mathlib.Core.Path.{sym, ◌∙◌, ap}
 use Rattle.number.specs.Number.{number_answer}
-use Rattle.record.specs.Laws.{header-none, header-next}
+use Rattle.record.proofs.Laws.{header-none, header-next}
 use Rattle.record.proofs.read_header.Goals as goal
 
 pub returns-in-Refused : goal.returns-in-Refused

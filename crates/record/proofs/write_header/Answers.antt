@@ -4,7 +4,7 @@ use native.Mathlib.Omega.{arith}
 use lib.ListN.{length}
 use Rattle.refusal.specs.Tests.{pass-none}
 use Rattle.record.specs.Records.{header}
-use Rattle.record.specs.Laws.{length-header}
+use Rattle.record.proofs.Laws.{length-header}
 use Rattle.record.proofs.Places.{place_inside, writer-misplaced, writer-full, writer-inside, writer-done}
 use Rattle.record.proofs.write_header.Goals as goal
 

@@ -13,7 +13,7 @@ use Rattle.shape.specs.Sizes.{detectors_of, layer_edges_of}
 use Rattle.shape.specs.declared.Shape.{Shape}
 use Rattle.record.specs.Records.{Result, result_from, result_at, result_edges, result_escapes}
 use Rattle.record.specs.Calls.{place_tests, edges_test, escapes_test, result_buffered, read_into_both, steps_of, read_result, result_answer}
-use Rattle.record.specs.Laws.{at-end, before-end, result-turned, both-not, done-steps}
+use Rattle.record.proofs.Laws.{at-end, before-end, result-turned, both-not, done-steps}
 use Rattle.record.proofs.Places.{place-turned, place-passes}
 use Rattle.result.proofs.read_result.Goals as goal
 

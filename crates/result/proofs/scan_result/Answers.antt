@@ -9,7 +9,7 @@ use Rattle.number.specs.Number.{number_answer, number_at}
 use Rattle.list.specs.Sheet.{list_at, list_answer}
 use Rattle.record.specs.Records.{Result, result_from}
 use Rattle.record.specs.Calls.{steps_of}
-use Rattle.record.specs.Laws.{edges-turned, escapes-turned, steps-turned, result-done}
+use Rattle.record.proofs.Laws.{edges-turned, escapes-turned, steps-turned, result-done}
 use Rattle.result.proofs.scan_result.Goals as goal
 
 back : (a : Answer Result) (f : Refusal) → a ≡ turned f → turned f ≡ steps_of a

@@ -11,7 +11,8 @@ use Rattle.list.specs.Sheet.{list_at, list_answer, list_buffered, read_into}
 use Rattle.list.specs.declared.Listed.{Listed}
 use Rattle.list.specs.declared.Listed.TheVariants.{To, Refused}
 use Rattle.record.specs.Records.{Result, result_from, result_edges, result_escapes}
-use Rattle.record.specs.Laws.{ResultParts, result_parts}
+use Rattle.record.specs.Laws.{ResultParts}
+use Rattle.record.proofs.Laws.{result_parts}
 use Rattle.result.proofs.store_result.Goals as goal
 
 -- what a reading of a list that can be read leaves

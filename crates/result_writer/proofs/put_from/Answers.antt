@@ -5,7 +5,7 @@ use Rattle.refusal.specs.Tests.{pass-none}
 use Rattle.refusal.specs.Tails.{wrote_none, wrote-inside, wrote-some}
 use Rattle.record.specs.Records.{Result, result}
 use Rattle.record.specs.Calls.{as_result}
-use Rattle.record.specs.Laws.{length-result}
+use Rattle.record.proofs.Laws.{length-result}
 use Rattle.result_writer.proofs.put_from.Lts as lts
 use Rattle.result_writer.proofs.put_from.Tie as tie
 use Rattle.result_writer.proofs.put_from.Reads as reads

@@ -13,7 +13,7 @@ use Rattle.number.specs.Number.{written}
 use Rattle.list.specs.Sheet.{listed}
 use Rattle.record.specs.Records.{Result, result}
 use Rattle.record.specs.Calls.{as_result}
-use Rattle.record.specs.Laws.{result-is, result-long}
+use Rattle.record.proofs.Laws.{result-is, result-long}
 use Rattle.result_writer.proofs.put_result.Lts as lts
 use Rattle.result_writer.proofs.put_result.Tie as tie
 use Rattle.result_writer.proofs.put_result.Reads as reads

@@ -3,7 +3,7 @@ use Prim.Native.Nat.{◌+◌, ◌-◌}
 use mathlib.Core.Path.{sym, ◌∙◌, ap, subst}
 use native.Mathlib.Omega.{arith}
 use lib.ListN.{get_or}
-use Rattle.shape.specs.Ranges.{ranged}
+use Rattle.shape.proofs.Ranges.{ranged}
 use Rattle.flat.specs.Stored.{stored}
 use Rattle.flat.specs.declared.Sizes.{Sizes}
 use Rattle.sinking.specs.Sunk.{Ordered, lowered_by}

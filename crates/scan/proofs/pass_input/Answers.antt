@@ -5,8 +5,8 @@ use mathlib.Core.Path.{◌≡◌, sym, ◌∙◌}
 use lib.ListN.{length, take, replicate}
 use lib.Seq.{length-take-le}
 use Rattle.shape.specs.Sizes.{max_detectors}
-use Rattle.shape.specs.LawsSizes.{detectors-le}
-use Rattle.shape.specs.Ranges.{ranged}
+use Rattle.shape.proofs.LawsSizes.{detectors-le}
+use Rattle.shape.proofs.Ranges.{ranged}
 use Rattle.scan.specs.Passed.{round-passed}
 use Rattle.scan.proofs.pass_input.Lts as lts
 use Rattle.scan.proofs.pass_input.Tie as tie

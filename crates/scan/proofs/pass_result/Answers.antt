@@ -7,8 +7,8 @@ use lib.Seq.{length-take-le}
 use Rattle.refusal.specs.Answer.{without_value}
 use Rattle.refusal.specs.Laws.{turned-passed}
 use Rattle.shape.specs.Sizes.{max_layer_edges, max_detectors}
-use Rattle.shape.specs.LawsSizes.{detectors-le, layer-le}
-use Rattle.shape.specs.Ranges.{ranged}
+use Rattle.shape.proofs.LawsSizes.{detectors-le, layer-le}
+use Rattle.shape.proofs.Ranges.{ranged}
 use Rattle.record.specs.Calls.{result_answer}
 use Rattle.record.specs.declared.ResultRead.{ResultRead}
 use Rattle.scan.specs.Passed.{result-passed}

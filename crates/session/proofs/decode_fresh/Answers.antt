@@ -2,7 +2,7 @@
 use mathlib.Core.Path.{sym, ◌∙◌}
 use Rattle.steps.specs.Models.{of_model}
 use Rattle.window.specs.Fresh.{fresh_window}
-use Rattle.starting.specs.Starts.{long-made, scratch-made, none_made, long-fresh, fresh-starts, fresh-shape, fresh-next}
+use Rattle.starting.proofs.Starts.{long-made, scratch-made, none_made, long-fresh, fresh-starts, fresh-shape, fresh-next}
 use Rattle.session.proofs.decode_fresh.Goals as goal
 
 pub rounds_on-requires : goal.rounds_on-requires

@@ -1,13 +1,13 @@
 -- `session::decode_resting` meets its contract: the arrays hold the window, and the one reached is packed from its set. Assumes nothing.
 use mathlib.Core.Path.{◌≡◌, refl, sym, ◌∙◌}
 use mathlib.Core.Bool.{true}
-use Rattle.shape.specs.Ranges.{in-range}
+use Rattle.shape.proofs.Ranges.{in-range}
 use Rattle.shape.specs.Sizes.{in_range}
 use Rattle.steps.specs.Models.{of_model}
 use Rattle.window.specs.Fresh.{slots-model}
 use Rattle.closure.specs.Closure.{Kept}
 use Rattle.closure.specs.Facts.{facts}
-use Rattle.starting.specs.Starts.{safe-made, nodes-long, long-made, scratch-made, none_made, resting-starts}
+use Rattle.starting.proofs.Starts.{safe-made, nodes-long, long-made, scratch-made, none_made, resting-starts}
 use Rattle.session.specs.Ends.{packed-other, packed-first}
 use Rattle.session.proofs.decode_resting.Lts as lts
 use Rattle.session.proofs.decode_resting.Tie as tie

@@ -1,7 +1,7 @@
 -- `sinking::thresholds_of` meets its contract: no number wraps. Assumes nothing.
 use Rattle.std.proofs.Common.{arith}
-use Rattle.shape.specs.Ranges.{ranged}
-use Rattle.shape.specs.LawsSizes.{detectors-le}
+use Rattle.shape.proofs.Ranges.{ranged}
+use Rattle.shape.proofs.LawsSizes.{detectors-le}
 use Rattle.sinking.specs.LawsSunk.{sides-le, boundary-le, inner-le}
 use Rattle.sinking.proofs.thresholds_of.Goals as goal
 

@@ -3,7 +3,8 @@ use Prim.Native.Nat.{ℕ, zero, suc, ◌≤◌}
 use native.Mathlib.Omega.{arith}
 use mathlib.Core.Path.{◌≡◌, refl, sym, ap}
 use Rattle.steps.specs.Steps.{naming, namer}
-use Rattle.steps.specs.Models.{circuit, circuit-none}
+use Rattle.steps.specs.Models.{circuit}
+use Rattle.steps.proofs.Models.{circuit-none}
 use Rattle.steps.proofs.any_namer.Goals as goal
 
 -- what is none of the kinds lies behind them

@@ -2,7 +2,8 @@
 use mathlib.Core.Path.{sym, ap}
 use borrow.Author.Tests.{ne_eqb}
 use Rattle.steps.specs.Steps.{Table, base}
-use Rattle.steps.specs.Models.{circuit, of-circuit, of-base}
+use Rattle.steps.specs.Models.{circuit}
+use Rattle.steps.proofs.Models.{of-circuit, of-base}
 use Rattle.steps.proofs.kinds.Goals as goal
 
 pub returns-then-model-eq1 : goal.returns-then-model-eq1

@@ -1,7 +1,7 @@
 -- `steps::namer` meets its contract. Assumes nothing.
 use native.Mathlib.Omega.{arith}
 use mathlib.Core.Path.{◌∙◌}
-use Rattle.steps.specs.Models.{model-none, model-names}
+use Rattle.steps.proofs.Models.{model-none, model-names}
 use Rattle.steps.proofs.namer.Goals as goal
 
 pub returns-then-kinds-kind : goal.returns-then-kinds-kind

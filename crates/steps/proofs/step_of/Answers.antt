@@ -1,7 +1,7 @@
 -- `steps::step_of` meets its contract. Assumes nothing.
 use native.Mathlib.Omega.{arith}
 use mathlib.Core.Path.{◌∙◌}
-use Rattle.steps.specs.Models.{model-stays, model-steps}
+use Rattle.steps.proofs.Models.{model-stays, model-steps}
 use Rattle.steps.proofs.step_of.Goals as goal
 
 pub returns-then-dirs-pointer : goal.returns-then-dirs-pointer

@@ -4,7 +4,7 @@ use mathlib.Core.List.{List}
 use Prim.Native.Nat.{ℕ, ◌-◌, ◌+◌}
 use native.Mathlib.Omega.{arith}
 use lib.ListN.{length}
-use Rattle.shape.specs.Ranges.{ranged}
+use Rattle.shape.proofs.Ranges.{ranged}
 use Rattle.shape.specs.Sizes.{detectors_of}
 use Rattle.top_sheet.specs.Received.{Received, put_from}
 use Rattle.top_sheet.specs.LawsReceived.{put-none, part-on, place-low, received}

@@ -5,11 +5,11 @@ use native.Mathlib.Omega.{arith}
 use Rattle.unpack.specs.Unpacked.{node_rule, mark_rule, unpacked-by, asked, pointer-low, formed-range}
 use Rattle.closure.specs.Facts.{facts}
 use Rattle.steps.specs.Models.{of_model}
-use Rattle.steps.specs.Models.{suited-model}
+use Rattle.steps.proofs.Models.{suited-model}
 use Rattle.plan.specs.Limits.{roomy-model}
 use Rattle.flat.specs.Stored.{stored-none, stored_next}
 use Rattle.flat.specs.declared.Sizes.{Sizes}
-use Rattle.shape.specs.LawsIndex.{nodes-max}
+use Rattle.shape.proofs.LawsIndex.{nodes-max}
 use Rattle.window.specs.Window.{size}
 use Rattle.unpack.proofs.unpack.Lts as lts
 use Rattle.unpack.proofs.unpack.Tie as tie

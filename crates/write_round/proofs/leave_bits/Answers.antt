@@ -2,8 +2,8 @@
 use Prim.Native.Nat.{ℕ}
 use mathlib.Core.Path.{◌∙◌, ap}
 use native.Mathlib.Omega.{arith}
-use Rattle.shape.specs.LawsSizes.{layer-le}
-use Rattle.shape.specs.Ranges.{ranged}
+use Rattle.shape.proofs.LawsSizes.{layer-le}
+use Rattle.shape.proofs.Ranges.{ranged}
 use Rattle.flat.specs.declared.Sizes.{Sizes}
 use Rattle.leave.specs.Leaving.{committed_in}
 use Rattle.write_round.specs.LawsLeft.{place-low}

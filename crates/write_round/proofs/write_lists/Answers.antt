@@ -4,8 +4,8 @@ use mathlib.Core.Path.{◌≡◌, sym, ◌∙◌}
 use native.Mathlib.Omega.{arith}
 use lib.ListN.{length, take, replicate}
 use lib.Seq.{length-take-le}
-use Rattle.shape.specs.LawsSizes.{detectors-le, layer-le}
-use Rattle.shape.specs.Ranges.{ranged}
+use Rattle.shape.proofs.LawsSizes.{detectors-le, layer-le}
+use Rattle.shape.proofs.Ranges.{ranged}
 use Rattle.shape.specs.Sizes.{max_layer_edges, max_detectors}
 use Rattle.write_round.proofs.write_lists.Lts as lts
 use Rattle.write_round.proofs.write_lists.Tie as tie

@@ -1,0 +1,5 @@
+pub mod Printed
+pub mod LawsTurn
+pub mod Resumed
+pub mod Lengths
+pub mod LawsDecoding

@@ -1,0 +1,5 @@
+pub mod SpentWitness
+pub mod Steps
+pub mod Runs
+pub mod Records
+pub mod Theorem

@@ -1,0 +1,2 @@
+pub mod RoundKinds
+pub mod RoundTrips
