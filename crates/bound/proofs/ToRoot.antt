@@ -20,7 +20,7 @@ use Rattle.law_holds.specs.Rested.{joined}
 use Rattle.law_holds.specs.Clusters.{calm}
 use Rattle.bound.specs.Depth.{rooted-calm, root_within, within-zero, within-along, pointed-lt, depth_below}
 use Rattle.bound.specs.Reachable.{Reachable, reachable-fresh, reachable-calls}
-use Rattle.bound.specs.ToRoot.{PointersTo, RootsReached, ToRoot, fewer, follows, mark, none, one_more, pointers, root, same}
+use Rattle.bound.specs.ToRoot.{PointersTo, RootsReached, ToRoot, none, one_more}
 
 -- THE PROOF
 

@@ -32,7 +32,7 @@ use Rattle.shows.proofs.Tests.{riding-by, aloft-by}
 use Rattle.shows.specs.Pass.{Going}
 use Rattle.shows.proofs.Turn.{going-all}
 use Rattle.window.specs.LawsRun.{ran-grown, ran-merging}
-use Rattle.shows.proofs.Run.{Over}
+use Rattle.shows.specs.Run.{Over}
 use Rattle.plan.specs.Table.{sizes_of}
 use Rattle.plan.specs.Filled.{Filled}
 use Rattle.unpack.specs.Rides.{rides_in}

@@ -19,7 +19,8 @@ use Rattle.next_list.specs.Next.{Next}
 use Rattle.next_list.specs.LawsNext.{follows}
 use Rattle.merge_step.specs.Pass.{AllLong, PassLeaves}
 use Rattle.shows.specs.Pass.{Going}
-use Rattle.shows.proofs.Run.{Underway, Over, run-starts, run-spent, run-rests, run-goes}
+use Rattle.shows.specs.Run.{Underway, Over}
+use Rattle.shows.proofs.Run.{run-starts, run-spent, run-rests, run-goes}
 use Rattle.run_steps.specs.Inside.{open-inside}
 
 -- some window of n nodes is shown, by some table, with a list that covers

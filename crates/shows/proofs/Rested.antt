@@ -20,6 +20,7 @@ use Rattle.closure.specs.Closure.{Kept, kept-round, kept-grow}
 use Rattle.closure.specs.Facts.{Facts, facts, node-within}
 use Rattle.shows.specs.Riding.{opens, neighbour, Riding, back-opens, back-node}
 use Rattle.shows.specs.Quiet.{Covers, AllQuiet}
+use Rattle.shows.specs.Rested.{OpenedListed, NearListed}
 use Rattle.shows.specs.Calm.{Calm, Silent}
 use Rattle.shows.proofs.Calm.{calm-quiet, quiet-silent, quiet_calm}
 use Rattle.shows.proofs.Grown.{riding-grown}
@@ -27,9 +28,9 @@ use Rattle.shows.proofs.Lowered.{by-sheet, above, top-shut, open-lower, node-low
 
 module _ (T : Table) (S : Suited T) (w : Window) (k : Kept T w) (rest : is_rest w.stage ≡ true) (R : Riding T w) (Q : AllQuiet T w) (bytes : List ℕ) (listed : ℕ → Bool)
     (new : (g : ℕ) → g < size w → g < sheet w → (at (rounded T w bytes) g).defect ≡ true → listed g ≡ true)
-    (opened : (g p : ℕ) → g < size w → opens T (rounded T w bytes) g p ≡ false → opens T (grown T (rounded T w bytes)) g p ≡ true → listed g ≡ true)
+    (opened : OpenedListed T w bytes listed)
     (cut : (g : ℕ) → g < size w → orphan T (rounded T w bytes) g ≡ true → listed g ≡ true)
-    (near : (g p : ℕ) → g < size w → orphan T (rounded T w bytes) g ≡ true → opens T (grown T (rounded T w bytes)) g p ≡ true → listed (to (grown T (rounded T w bytes)) T p g).node ≡ true) where
+    (near : NearListed T w bytes listed) where
   abbrev w₁ : Window
   w₁ = rounded T w bytes
 

@@ -16,13 +16,10 @@ use Rattle.window.specs.Run.{steps_from, ran}
 use Rattle.window.specs.Window.{is_rest, size}
 use Rattle.window.specs.declared.Ran.{Ran}
 use Rattle.window.specs.declared.Window.{Window}
-use Rattle.closure.specs.Closure.{Kept}
 use Rattle.flat.specs.Entries.{State}
 use Rattle.flat.specs.Plan.{Plan}
 use Rattle.flat.specs.Step.{busy_in, Passed, Follows}
-use Rattle.shows.specs.Shows.{Shows}
-use Rattle.shows.specs.Riding.{Riding}
-use Rattle.shows.specs.Quiet.{AllQuiet}
+use Rattle.shows.specs.Run.{Underway, Over}
 use Rattle.shows.specs.Pass.{Going}
 use Rattle.shows.proofs.Pass.{pass-rest, pass_on, pass-shows, pass-going, pass-riding, pass_kept, pass-quiet}
 
@@ -32,34 +29,13 @@ unfolding rounded
 ran-round T budget w defects = ran-grown T budget (rounded T w defects) refl
 
 module _ (T : Table) (P : Plan) (budget : ℕ) (whole : Ran) (rides : Bool) (w₀ : Window) where
-  -- so many steps were made
-  pub record Underway (made : ℕ) (st : State) (count : ℕ) (list : ℕ → ℕ) : Type 0 where
-    pub window : Window
-    pub shape : window.shape ≡ w₀.shape
-    pub next : window.next ≡ w₀.next
-    pub measured : window.measured ≡ w₀.measured
-    pub going : Going T P window st rides count list
-    pub equals : steps_from T (budget - made) made window ≡ whole
-
-  pub record Over (rest : Bool) (total : ℕ) (st : State) : Type 0 where
-    pub window : Window
-    pub shape : window.shape ≡ w₀.shape
-    pub next : window.next ≡ w₀.next
-    pub measured : window.measured ≡ w₀.measured
-    pub equals : whole ≡ record { window = window; rest = rest; count = total }
-    pub kept : Kept T window
-    pub shows : Shows T window st
-    pub still : rest ≡ true → is_rest window.stage ≡ true
-    pub riding : rides ≡ true → Riding T window
-    pub quiet : rest ≡ true → rides ≡ true → AllQuiet T window
-
-  pub run-starts : (st : State) (count : ℕ) (list : ℕ → ℕ) → Going T P w₀ st rides count list → steps_from T budget 0 w₀ ≡ whole → Underway 0 st count list
+  pub run-starts : (st : State) (count : ℕ) (list : ℕ → ℕ) → Going T P w₀ st rides count list → steps_from T budget 0 w₀ ≡ whole → Underway T P budget whole rides w₀ 0 st count list
   run-starts st count list G e =
       let z : budget - 0 ≡ budget = omega arith in
       record { window = w₀; shape = refl; next = refl; measured = refl; going = G; equals = ap (λ (n : ℕ). steps_from T n 0 w₀) z ∙ e }
 
   -- the budget is spent
-  pub run-spent : (made : ℕ) (st : State) (count : ℕ) (list : ℕ → ℕ) → Underway made st count list → budget ≤ made → Over false made st
+  pub run-spent : (made : ℕ) (st : State) (count : ℕ) (list : ℕ → ℕ) → Underway T P budget whole rides w₀ made st count list → budget ≤ made → Over T P budget whole rides w₀ false made st
   run-spent made st count list U l =
       let z : budget - made ≡ 0 = omega arith in
       record {
@@ -76,7 +52,7 @@ module _ (T : Table) (P : Plan) (budget : ℕ) (whole : Ran) (rides : Bool) (w�
       }
 
   -- ONE PASS
-  module _ (S : Suited T) (made : ℕ) (st : State) (count : ℕ) (list : ℕ → ℕ) (U : Underway made st count list) (l : made < budget) (st' : State) (A : Passed P st count list (size w₀) st') where
+  module _ (S : Suited T) (made : ℕ) (st : State) (count : ℕ) (list : ℕ → ℕ) (U : Underway T P budget whole rides w₀ made st count list) (l : made < budget) (st' : State) (A : Passed P st count list (size w₀) st') where
     abbrev w : Window
     w = U.window
 
@@ -87,7 +63,7 @@ module _ (T : Table) (P : Plan) (budget : ℕ) (whole : Ran) (rides : Bool) (w�
     passed = subst (λ (sh : Shape). Passed P st count list (nodes sh) st') (sym U.shape) A
 
     -- no listed node was busy
-    pub run-rests : busy_in P st count list ≡ false → Over true (made + 1) st'
+    pub run-rests : busy_in P st count list ≡ false → Over T P budget whole rides w₀ true (made + 1) st'
     unfolding merged
     run-rests b =
         let r = pass-rest T S P w st rides count list U.going b in
@@ -106,7 +82,7 @@ module _ (T : Table) (P : Plan) (budget : ℕ) (whole : Ran) (rides : Bool) (w�
 
     -- one was, and the next list follows, or is the same where pointers do not ride
     pub run-goes : (count' : ℕ) (list' : ℕ → ℕ) → (rides ≡ true → Follows P st count list (size w₀) count' list') → (rides ≡ false → (count' ≡ count) × ((i : ℕ) → i < count → list' i ≡ list i))
-        → busy_in P st count list ≡ true → Underway (made + 1) st' count' list'
+        → busy_in P st count list ≡ true → Underway T P budget whole rides w₀ (made + 1) st' count' list'
     unfolding merged
     run-goes count' list' follows same b =
         record {

@@ -25,7 +25,9 @@ pub mod Unpack
 pub mod Fresh
 pub mod Leaves
 -- a turn, from rest to rest
+pub mod Rested
 pub mod Changed
 pub mod Turn
+pub mod Run
 -- a window of unknown origin
 pub mod Tests

@@ -26,7 +26,8 @@ use Rattle.shows.specs.Grown.{cuts_at, Grows}
 use Rattle.shows.specs.Changed.{Enlists}
 use Rattle.shows.specs.Pass.{Going}
 use Rattle.shows.specs.Planned.{Planned}
-use Rattle.shows.proofs.Run.{Over, ran-round}
+use Rattle.shows.specs.Run.{Over}
+use Rattle.shows.proofs.Run.{ran-round}
 use Rattle.shows.specs.Sinks.{second_there, Sinks}
 use Rattle.shows.proofs.Sinks.{sinks-shows}
 use Rattle.shows.specs.Turn.{Held}

@@ -20,11 +20,10 @@ loop-reader-init c =
     let from : (c.new.result).src.now ≡ s = ap (λ (b : Bor (List ℕ)). b.now) n.0 in
     let read : header_answer (c.header-head.result).answer ≡ header_at s 0 = h.0 ∙ ap₂ (λ (x : List ℕ) (i : ℕ). header_at x i) from n.1 in
     let place : (c.header-head.result).reader.at ≡ next_or (header_answer (c.header-head.result).answer) 0 =
-    ap (λ (r : Reader). r.at) h.1 ∙ ap (λ (i : ℕ). next_or (header_answer (c.header-head.result).answer) i) n.1 in
-    (
+    ap (λ (r : Reader). r.at) h.1 ∙ ap (λ (i : ℕ). next_or (header_answer (c.header-head.result).answer) i) n.1 in (
       ap (λ (r : Reader). r.src.now) h.1 ∙ from,
       subst (λ (o : StreamRead). Reached k s o (c.header-head.result).reader.at) (sym c.open_stream-read.ensures)
-      (subst (λ (i : ℕ). Reached k s (opening (c.header-head.result).answer) i) (sym place) (opened k s c.requires (c.header-head.result).answer read)),
+          (subst (λ (i : ℕ). Reached k s (opening (c.header-head.result).answer) i) (sym place) (opened k s c.requires (c.header-head.result).answer read)),
     )
 
 pub returns : goal.returns
