@@ -24,7 +24,6 @@ const FIRST: [u8; 8] = [1, 3, 0, 1, 0, 0, 0, 0];
 const FIRST_RESULT: [u8; 16] = [1, 3, 0, 0, 0, 2, 0, 0, 1, 0, 0, 4, 1, 0, 0, 2];
 
 /// Their numbers on Linux.
-const SIGPIPE: i32 = 13;
 const SIGXFSZ: i32 = 25;
 
 fn program() -> Command {
@@ -279,7 +278,7 @@ fn limited_result() {
     }
 }
 
-/// A result that nobody reads: its signal, likewise.
+/// A result that nobody reads: a write fails, whichever way its signal was set, since what starts a Rattle program ignores it.
 #[test]
 fn result_without_a_reader() {
     let without_reader = || {
@@ -287,11 +286,10 @@ fn result_without_a_reader() {
         reader.shutdown(Shutdown::Read).expect("a socket can be shut");
         OwnedFd::from(writer)
     };
-    let output = ended(program_after("trap '' PIPE"), file_of(&FIRST), without_reader());
-    assert_eq!(written(output), stopped(&[], "unwritten"));
-    let output = ended(program(), file_of(&FIRST), without_reader());
-    assert!(output.stderr.is_empty());
-    assert_eq!(output.status.signal(), Some(SIGPIPE));
+    for command in [program_after("trap '' PIPE"), program()] {
+        let output = ended(command, file_of(&FIRST), without_reader());
+        assert_eq!(written(output), stopped(&[], "unwritten"));
+    }
 }
 
 /// A file system that tells only where a file is to keep its bytes that some are lost, as one over the network may.

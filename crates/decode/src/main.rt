@@ -6,8 +6,8 @@
 //   long       more than 65,536 bytes can be read; nothing is written
 //   unread     a read failed; nothing is written
 //   unwritten  a write failed, or the file that took the result cannot keep it; what is written may be cut at any byte
-// Its status is 0 also then. A signal that ends it, as by default where nobody reads the result or a limit on a file's size leaves no room
-// for its next byte, leaves no line and another status. Where standard error cannot be written, nothing can be told.
+// Its status is 0 also then. A signal that ends it, as by default where a limit on a file's size leaves no room for its next byte, leaves no
+// line and another status. Where standard error cannot be written, nothing can be told.
 #![tactic(auto)]
 
 use decoding::Ending;
