@@ -21,8 +21,8 @@ use std::io::{ErrorKind, Read};
 use std::rt::Files;
 use window::Window;
 
-// Standard output, by its name on Linux.
-const RESULT: &str = "/proc/self/fd/1";
+// Standard output, by its name.
+const RESULT: &str = "/dev/stdout";
 
 // What was read: how many bytes, or that a read failed.
 #[derive(Clone, Copy)]

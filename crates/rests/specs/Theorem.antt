@@ -16,10 +16,9 @@ use Rattle.decoding.specs.LawsDecoding.{on_header}
 use Rattle.decoding.proofs.LawsDecoding.{by-header}
 use Rattle.account.specs.Codes.{status-spent}
 use Rattle.rests.specs.Rests.{RunsRest}
-use Rattle.rests.proofs.Runs.{promised-rests}
-use Rattle.rests.proofs.Steps.{steps-few}
-use Rattle.rests.specs.Records.{NotSpent}
-use Rattle.rests.proofs.Records.{turns-back, rounds-unspent, pieces-unspent}
+use Rattle.rests.specs.Runs.{promised-rests}
+use Rattle.rests.specs.Steps.{steps-few}
+use Rattle.rests.specs.Records.{NotSpent, turns-back, rounds-unspent, pieces-unspent}
 
 -- the fresh window of a header that was read
 fresh-reachable : (s : List ℕ) (at next : ℕ) (sh : Shape) → header_at s at ≡ done sh next → Reachable (of_model sh.model) sh (fresh_window (of_model sh.model) sh)
