@@ -7,7 +7,7 @@ ghost use Rattle.shape.specs.Sizes.{shape_answer};
 ghost use Rattle.creation.specs.Creation.{limits_allow, allowed_shape};
 
 use refusal::Refusal;
-use shape::{MAX_DISTANCE, MAX_HEIGHT, Shaped};
+use shape::{MAX_DISTANCE, MAX_HEIGHT, Shape};
 
 // No limit is above the largest shape's, and the shape is not over them.
 fn limits_allow(height: u32, distance: u32, largest_height: u32, largest_distance: u32) -> bool
@@ -25,19 +25,14 @@ pub fn allowed_shape(
     model: u32,
     largest_height: u32,
     largest_distance: u32,
-) -> Shaped
+) -> Result<Shape, Refusal>
     ensures { shape_answer result ≡ allowed_shape height distance model largest_height largest_distance }
 {
-    let shaped = extent::shape_of(height, distance, model);
-    match shaped {
-        Shaped::Refused(f) => Shaped::Refused(f),
-        Shaped::Shape(shape) => {
-            if !limits_allow(height, distance, largest_height, largest_distance) {
-                return Shaped::Refused(Refusal::Limit);
-            }
-            Shaped::Shape(shape)
-        }
+    let shape = extent::shape_of(height, distance, model)?;
+    if !limits_allow(height, distance, largest_height, largest_distance) {
+        return Err(Refusal::Limit);
     }
+    Ok(shape)
 }
 
 // The same as one number: 0 where it is allowed, else the refusal's.
@@ -51,7 +46,7 @@ pub fn allowed(
     ensures { result ≡ status (allowed_shape height distance model largest_height largest_distance) }
 {
     match allowed_shape(height, distance, model, largest_height, largest_distance) {
-        Shaped::Shape(_) => 0,
-        Shaped::Refused(f) => refusal::number(f),
+        Ok(_) => 0,
+        Err(f) => refusal::number(f),
     }
 }

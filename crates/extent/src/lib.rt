@@ -7,7 +7,7 @@ ghost use Rattle.shape.specs.Nodes.{side as side_of, number_of, index_of};
 ghost use Rattle.shape.specs.Limits.{Factors, Product};
 
 use refusal::Refusal;
-use shape::{MAX_DISTANCE, MAX_HEIGHT, Place, Shape, Shaped, Tested};
+use shape::{MAX_DISTANCE, MAX_HEIGHT, Place, Shape};
 
 // A byte as a count.
 pub fn wide(x: u8) -> usize
@@ -60,19 +60,19 @@ pub fn model_ok(m: u32) -> bool
     m <= 1
 }
 
-pub fn shape_of(height: u32, distance: u32, model: u32) -> Shaped
+pub fn shape_of(height: u32, distance: u32, model: u32) -> Result<Shape, Refusal>
     ensures { shape_answer result ≡ shape_of height distance model }
 {
     if !height_ok(height) {
-        return Shaped::Refused(Refusal::Height);
+        return Err(Refusal::Height);
     }
     if !distance_ok(distance) {
-        return Shaped::Refused(Refusal::Distance);
+        return Err(Refusal::Distance);
     }
     if !model_ok(model) {
-        return Shaped::Refused(Refusal::Model);
+        return Err(Refusal::Model);
     }
-    Shaped::Shape(Shape {
+    Ok(Shape {
         height: height as u8,
         distance: distance as u8,
         model: model as u8,
@@ -80,19 +80,11 @@ pub fn shape_of(height: u32, distance: u32, model: u32) -> Shaped
 }
 
 // The same tests on a shape that anyone may have made.
-pub fn in_range(shape: Shape) -> Tested
+pub fn in_range(shape: Shape) -> Result<(), Refusal>
     ensures { tested_answer result ≡ shape_fine shape }
 {
-    if !height_ok(shape.height as u32) {
-        return Tested::Refused(Refusal::Height);
-    }
-    if !distance_ok(shape.distance as u32) {
-        return Tested::Refused(Refusal::Distance);
-    }
-    if !model_ok(shape.model as u32) {
-        return Tested::Refused(Refusal::Model);
-    }
-    Tested::Fine
+    shape_of(shape.height as u32, shape.distance as u32, shape.model as u32)?;
+    Ok(())
 }
 
 pub fn ranged(shape: Shape) -> bool

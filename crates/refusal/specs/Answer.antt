@@ -1,5 +1,5 @@
 -- What a call on a stream answers, in the documents' numbers. Assumes nothing.
-use Rattle.std.specs.Prelude.{ℕ, Bool, true, false, List, [], ◌∷◌}
+use Rattle.std.specs.Prelude.{ℕ, Bool, true, false, List, [], ◌∷◌, Option, Some, None, Result, Ok, Err}
 use Rattle.refusal.specs.declared.Refusal.{Refusal}
 use Rattle.refusal.specs.declared.Refusal.TheVariants.{Height, Distance, Detectors, Byte, Edges, Escapes, Cut, Form, Entry, Offset, Room, NotWellFormed, WrongStage, LastRound, Model, Limit}
 
@@ -40,6 +40,19 @@ by_code (placed n at) = refused_at n at
 
 abbrev pub turned : {A : Type 0} → Refusal → Answer A
 turned f = by_code (code_of f)
+
+-- what a call answers where it reads and writes nothing; a reading, with the offset behind it; what ends at an offset; a round, if there is one
+abbrev pub answered : {A : Type 0} → Result A Refusal → Answer A
+answered (Ok a) = done a 0
+answered (Err f) = turned f
+
+abbrev pub reading : {A : Type 0} → Result (A × ℕ) Refusal → Answer A
+reading (Ok r) = done r.0 r.1
+reading (Err f) = turned f
+
+abbrev pub to_offset : Result ℕ Refusal → Answer (Unit {0})
+to_offset (Ok next) = done tt next
+to_offset (Err f) = turned f
 
 -- an answer in one number: 0 done, 255 no bytes left, else the refusal's number
 abbrev pub status : {A : Type 0} → Answer A → ℕ

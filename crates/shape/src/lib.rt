@@ -1,8 +1,6 @@
 // What a shape is, and the largest one. Its sizes, and the numbers and the internal order of its nodes, stand in specs/.
 #![tactic(auto)]
 
-use refusal::Refusal;
-
 // The largest height and distance. The arrays of a window and the buffers of a round are made for a shape of both.
 pub const MAX_HEIGHT: usize = 15;
 
@@ -30,18 +28,6 @@ pub struct Shape {
     pub height: u8,
     pub distance: u8,
     pub model: u8,
-}
-
-#[derive(Clone, Copy)]
-pub enum Shaped {
-    Shape(Shape),
-    Refused(Refusal),
-}
-
-#[derive(Clone, Copy)]
-pub enum Tested {
-    Fine,
-    Refused(Refusal),
 }
 
 // A node's place: depth 0 is the top sheet, columns 0 and the distance are boundary.
