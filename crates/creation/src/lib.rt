@@ -47,6 +47,6 @@ pub fn allowed(
 {
     match allowed_shape(height, distance, model, largest_height, largest_distance) {
         Ok(_) => 0,
-        Err(f) => refusal::number(f),
+        Err(f) => u8::from(f),
     }
 }

@@ -1,10 +1,10 @@
 // Why a call is turned back: the numbered refusals of documents 01 and 02, by name.
 #![tactic(auto)]
 
-ghost use Rattle.std.specs.Prelude.{◌≡◌};
+ghost use Rattle.std.specs.Prelude.{◌≡◌, ℕ, unwrap_or};
 ghost use Rattle.refusal.specs.Answer.{status, place_or, turned};
 
-#[derive(Clone, Copy)]
+#[derive(Clone, Copy, PartialEq, Eq)]
 pub enum Refusal {
     // The height is not 1 to 15.
     Height,
@@ -40,50 +40,40 @@ pub enum Refusal {
     Limit,
 }
 
-// The documents' number of a refusal.
-pub fn number(f: Refusal) -> u8
-    ensures { result ≡ status (turned {A = Unit {0}} f) }
-{
-    match f {
-        Refusal::Height => 1,
-        Refusal::Distance => 2,
-        Refusal::Detectors => 3,
-        Refusal::Byte => 4,
-        Refusal::Edges => 5,
-        Refusal::Escapes => 6,
-        Refusal::Cut(_) => 7,
-        Refusal::Form(_) => 8,
-        Refusal::Entry(_) => 9,
-        Refusal::Offset => 10,
-        Refusal::Room => 11,
-        Refusal::NotWellFormed => 21,
-        Refusal::WrongStage => 22,
-        Refusal::LastRound => 23,
-        Refusal::Model => 31,
-        Refusal::Limit => 32,
+impl From<Refusal> for u8 {
+    // The documents' number of a refusal.
+    ghost from_gives = { λ f n. n ≡ status (turned {A = Unit {0}} f) };
+
+    fn from(f: Refusal) -> u8 {
+        match f {
+            Refusal::Height => 1,
+            Refusal::Distance => 2,
+            Refusal::Detectors => 3,
+            Refusal::Byte => 4,
+            Refusal::Edges => 5,
+            Refusal::Escapes => 6,
+            Refusal::Cut(_) => 7,
+            Refusal::Form(_) => 8,
+            Refusal::Entry(_) => 9,
+            Refusal::Offset => 10,
+            Refusal::Room => 11,
+            Refusal::NotWellFormed => 21,
+            Refusal::WrongStage => 22,
+            Refusal::LastRound => 23,
+            Refusal::Model => 31,
+            Refusal::Limit => 32,
+        }
     }
 }
 
-// The offset that a refusal carries, or `other` where it carries none.
-pub fn place_or(f: Refusal, other: usize) -> usize
-    ensures { result ≡ place_or (turned {A = Unit {0}} f) other }
-{
-    match f {
-        Refusal::Height => other,
-        Refusal::Distance => other,
-        Refusal::Detectors => other,
-        Refusal::Byte => other,
-        Refusal::Edges => other,
-        Refusal::Escapes => other,
-        Refusal::Cut(at) => at,
-        Refusal::Form(at) => at,
-        Refusal::Entry(at) => at,
-        Refusal::Offset => other,
-        Refusal::Room => other,
-        Refusal::NotWellFormed => other,
-        Refusal::WrongStage => other,
-        Refusal::LastRound => other,
-        Refusal::Model => other,
-        Refusal::Limit => other,
+impl Refusal {
+    // The offset that a refusal carries.
+    pub fn place(self) -> Option<usize>
+        ensures { (other : ℕ) → unwrap_or result other ≡ place_or (turned {A = Unit {0}} self) other }
+    {
+        match self {
+            Refusal::Cut(at) | Refusal::Form(at) | Refusal::Entry(at) => Some(at),
+            _ => None,
+        }
     }
 }
