@@ -83,7 +83,11 @@ pub fn shape_of(height: u32, distance: u32, model: u32) -> Result<Shape, Refusal
 pub fn in_range(shape: Shape) -> Result<(), Refusal>
     ensures { tested_answer result ≡ shape_fine shape }
 {
-    shape_of(shape.height as u32, shape.distance as u32, shape.model as u32)?;
+    shape_of(
+        shape.height as u32,
+        shape.distance as u32,
+        shape.model as u32,
+    )?;
     Ok(())
 }
 

@@ -12,3 +12,4 @@ pub mod Stored
 pub mod Laid
 -- readings stay in the arrays
 pub mod Bounds
+pub mod Structs

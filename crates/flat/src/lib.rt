@@ -1,10 +1,16 @@
 // The flat machine's arrays: what their numbers mean, and how they are read.
 #![tactic(auto)]
 
-ghost use Rattle.std.specs.Prelude.{◌≡◌, ◌+◌, ◌-◌, ◌≤◌, ◌<◌, eqb, replicate, false};
+ghost use Rattle.std.specs.Prelude.{◌≡◌, ◌+◌, ◌-◌, ◌≤◌, ◌<◌, eqb};
 ghost use Rattle.flat.specs.Codes.{node_code, active_of, defect_of, unrooted_of, pointer_of, edge_code, growth_of, correction_of};
 ghost use Rattle.flat.specs.Entries.{over_by};
-ghost use Rattle.flat.specs.Plan.{Safe, plan_of};
+ghost use Rattle.flat.specs.Structs.{plan_in};
+
+mod arrays;
+mod layout;
+
+pub use arrays::{Arrays, Work};
+pub use layout::Layout;
 
 // Before the nodes of a plane and behind them are margins, so that a neighbour is an entry plus a constant.
 pub const MARGIN: usize = 512;
@@ -58,30 +64,6 @@ pub struct Sizes {
     pub bound: u16,
 }
 
-// The layout of a shape in the arrays: its sizes and its table, by which every reading stays in them, whatever pointers the nodes hold.
-#[derive(Drop)]
-pub struct Layout {
-    pub sizes: Sizes,
-    pub table: [u16; TABLE],
-    ghost safe: { Safe sizes table },
-}
-
-// A window in the arrays.
-#[derive(Drop)]
-pub struct Arrays {
-    pub nodes: [u8; PLANE],
-    pub marks: [u16; PLANE],
-    pub edges: [u8; PLANES],
-}
-
-// What a run works with: the work lists, which nodes are on one, and a word for each listed node.
-#[derive(Drop)]
-pub struct Work {
-    pub lists: [u16; LISTS],
-    pub queued: [bool; PLANE],
-    pub words: [u32; PLANE],
-}
-
 // What flooding leaves of a node.
 #[derive(Clone, Copy)]
 pub struct Flood {
@@ -101,7 +83,7 @@ impl Layout {
     // The entry of the node over a direction.
     pub fn over(&self, x: usize, k: usize) -> usize
         requires { (512 ≤ x) × (x < 512 + self.now.sizes.nodes) × (k < 32) }
-        ensures value { result ≡ over_by x ((plan_of self.now.sizes self.now.table).off k) }
+        ensures value { result ≡ over_by x ((plan_in self.now).off k) }
         ensures bound { result < 4608 }
     {
         over(x, self.table[k])
@@ -110,40 +92,10 @@ impl Layout {
     // The entry of the edge in a direction.
     pub fn slot(&self, x: usize, k: usize) -> usize
         requires { (512 ≤ x) × (x < 512 + self.now.sizes.nodes) × (k < 32) }
-        ensures value { result ≡ over_by x ((plan_of self.now.sizes self.now.table).slot k) }
+        ensures value { result ≡ over_by x ((plan_in self.now).slot k) }
         ensures bound { result < 27648 }
     {
         over(x, self.table[SLOTS + k])
-    }
-}
-
-impl Arrays {
-    // No node, and no edge.
-    pub fn empty() -> Arrays
-        ensures nodes { result.nodes ≡ replicate 4608 0 }
-        ensures marks { result.marks ≡ replicate 4608 0 }
-        ensures edges { result.edges ≡ replicate 27648 3 }
-    {
-        Arrays {
-            nodes: [0; PLANE],
-            marks: [0; PLANE],
-            edges: [NO_EDGE; PLANES],
-        }
-    }
-}
-
-impl Work {
-    // No node is listed.
-    pub fn empty() -> Work
-        ensures lists { result.lists ≡ replicate 13824 0 }
-        ensures queued { result.queued ≡ replicate 4608 false }
-        ensures words { result.words ≡ replicate 4608 0 }
-    {
-        Work {
-            lists: [0; LISTS],
-            queued: [false; PLANE],
-            words: [0; PLANE],
-        }
     }
 }
 
