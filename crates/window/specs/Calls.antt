@@ -1,6 +1,7 @@
 -- THE CALLS, refused ones too: what each answers and leaves, in the documents' numbers. Assumes nothing.
-use Rattle.std.specs.Prelude.{ℕ, Bool, not, List, [], ◌∷◌, ltb, eqb, length}
+use Rattle.std.specs.Prelude.{ℕ, Bool, not, List, [], ◌∷◌, ltb, eqb, length, Result, Ok, Err}
 use Rattle.refusal.specs.Answer.{Answer, done, turned, unless, and_then, without_value, value_or, itself}
+use Rattle.refusal.specs.declared.Refusal.{Refusal}
 use Rattle.list.specs.Sheet.{are_bits}
 use Rattle.shape.specs.Sizes.{detectors_of}
 use Rattle.creation.specs.Creation.{allowed_shape}
@@ -16,14 +17,12 @@ use Rattle.window.specs.Merging.{merged}
 use Rattle.window.specs.Run.{ran}
 use Rattle.window.specs.declared.Ran.{Ran}
 use Rattle.window.specs.declared.Window.{Window}
-use Rattle.window.specs.declared.Called.{Called}
-use Rattle.window.specs.declared.Called.TheVariants as called
 
 -- THE ANSWERS
 
-abbrev pub call_answer : Called → Answer (Unit {0})
-call_answer called.Done = done tt 0
-call_answer (called.Refused f) = turned f
+abbrev pub call_answer : Result (Unit {0}) Refusal → Answer (Unit {0})
+call_answer (Ok u) = done tt 0
+call_answer (Err f) = turned f
 
 -- what a call answers, and the window after it
 pub record Answered (A : Type 0) : Type 0 where

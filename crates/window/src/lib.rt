@@ -16,7 +16,7 @@ pub const MAX_SLOTS: usize = 6 * MAX_NODES;
 pub const MAX_NEXT: u32 = 4294967295;
 
 // A node's cluster mark: reset, or the number of a root.
-#[derive(Clone, Copy)]
+#[derive(Clone, Copy, PartialEq, Eq)]
 pub enum Mark {
     Reset,
     Root(u16),
@@ -32,7 +32,7 @@ pub struct Node {
     pub mark: Mark,
 }
 
-#[derive(Clone, Copy)]
+#[derive(Clone, Copy, PartialEq, Eq)]
 pub enum Stage {
     Rest,
     ToGrow,
@@ -95,17 +95,10 @@ pub struct Ran {
     pub count: u32,
 }
 
-// How a call ended.
-#[derive(Clone, Copy)]
-pub enum Called {
-    Done,
-    Refused(Refusal),
-}
-
 // A call's answer, and the window after it.
 #[derive(Clone, Copy)]
-pub struct Given {
-    pub answer: Called,
+pub struct Given<A> {
+    pub answer: Result<A, Refusal>,
     pub window: Window,
 }
 
@@ -125,46 +118,26 @@ pub fn alone(mark: u16, defect: bool) -> Node
 pub fn is_rest(stage: Stage) -> bool
     ensures { result ≡ is_rest stage }
 {
-    match stage {
-        Stage::Rest => true,
-        Stage::ToGrow => false,
-        Stage::Merging => false,
-    }
+    stage == Stage::Rest
 }
 
 pub fn is_to_grow(stage: Stage) -> bool
     ensures { result ≡ is_to_grow stage }
 {
-    match stage {
-        Stage::Rest => false,
-        Stage::ToGrow => true,
-        Stage::Merging => false,
-    }
+    stage == Stage::ToGrow
 }
 
 pub fn is_merging(stage: Stage) -> bool
     ensures { result ≡ is_merging stage }
 {
-    match stage {
-        Stage::Rest => false,
-        Stage::ToGrow => false,
-        Stage::Merging => true,
-    }
+    stage == Stage::Merging
 }
 
 // Of the first k sheets, those of supplied rounds.
 fn supplied(shape: Shape, next: u32, k: usize) -> usize
     ensures { result ≡ supplied_of shape.distance next k }
 {
-    let sheets = extent::sheets(shape);
-    let rounds = next as usize;
-    if rounds < sheets {
-        return 0;
-    }
-    if rounds - sheets < k {
-        return rounds - sheets;
-    }
-    k
+    k.min((next as usize).saturating_sub(extent::sheets(shape)))
 }
 
 // How many of a window's sheets are there.
@@ -178,11 +151,7 @@ pub fn present(shape: Shape, next: u32) -> usize
 fn led_to(shape: Shape, stage: Stage) -> usize
     ensures { result ≡ led_to shape.distance stage }
 {
-    let sheets = extent::sheets(shape);
-    if is_to_grow(stage) {
-        return sheets + 1;
-    }
-    sheets
+    extent::sheets(shape) + usize::from(stage == Stage::ToGrow)
 }
 
 // How many of those are of supplied rounds.
@@ -196,8 +165,5 @@ pub fn pointed(shape: Shape, stage: Stage, next: u32) -> usize
 pub fn bit(set: bool) -> u8
     ensures { result ≡ bit_of set }
 {
-    if set {
-        return 1;
-    }
-    0
+    u8::from(set)
 }
