@@ -1,5 +1,5 @@
 -- What the calls of a session answer and leave, refused ones too. Assumes nothing.
-use Rattle.std.specs.Prelude.{ℕ, ◌+◌, List, ◌++◌, length, drop}
+use Rattle.std.specs.Prelude.{ℕ, ◌+◌, List, ◌++◌, length, drop, Result, Ok, Err}
 use Rattle.refusal.specs.Answer.{code_of}
 use Rattle.refusal.specs.Writing.{laid}
 use Rattle.steps.specs.Steps.{Table}
@@ -7,8 +7,6 @@ use Rattle.window.specs.declared.Window.{Window}
 use Rattle.decoding.specs.Decoding.{Line, finished, spent, turned_back, Recorded, wrote, stopped, record_at, rounds, Decoded, decoded}
 use Rattle.decoding.specs.declared.Ending.{Ending}
 use Rattle.decoding.specs.declared.Ending.TheVariants as ending
-use Rattle.decoding.specs.declared.Record.{Record}
-use Rattle.decoding.specs.declared.Record.TheVariants as answer
 
 -- how a decoding ended
 abbrev pub line_of : Ending → Line
@@ -23,9 +21,9 @@ pub data RecordAnswer : Type 0 where
   to : (next behind : ℕ) → RecordAnswer
   over : Line → RecordAnswer
 
-abbrev pub record_answer : Record → RecordAnswer
-record_answer (answer.Written next behind) = to next behind
-record_answer (answer.Stopped e) = over (line_of e)
+abbrev pub record_answer : Result (ℕ × ℕ) Ending → RecordAnswer
+record_answer (Ok r) = to r.0 r.1
+record_answer (Err e) = over (line_of e)
 
 -- the answer, the window and the buffer
 pub record RecordReturned : Type 0 where

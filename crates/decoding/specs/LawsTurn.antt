@@ -6,11 +6,9 @@ use Rattle.shape.specs.Sizes.{detectors_of}
 use Rattle.steps.specs.Steps.{Table}
 use Rattle.record.specs.Records.{round_at}
 use Rattle.window.specs.Lists.{by_place, bit}
-use Rattle.window.specs.Window.{at}
 use Rattle.window.specs.Calls.{Round, round_call, run_call}
 use Rattle.window.specs.declared.Ran.{Ran}
 use Rattle.window.specs.declared.Window.{Window}
-use Rattle.closure.specs.Round.{round}
 use Rattle.decoding.specs.Decoding.{budget, Turn}
 
 -- THE SIZES of a sheet and of a layer

@@ -1,10 +1,14 @@
 // What a decoding answers. Its rule stands in specs/Decoding.antt, with the theorems on it beside.
 #![tactic(auto)]
 
+ghost use Rattle.std.specs.Prelude.{◌≡◌};
+ghost use Rattle.decoding.specs.declared.Ending.TheVariants.{Refused};
+
 use refusal::Refusal;
 use window::Window;
 
-// How a decoding ended: at the stream's end, with a round that is spent, or with a refusal.
+// How a decoding ended: at the stream's end, with a round that is spent, or with a refusal. A record is written or ends the decoding:
+// its answer is `Result<(usize, usize), Ending>`, with the offsets behind the round that was read and behind what was written.
 #[derive(Clone, Copy)]
 pub enum Ending {
     Finished,
@@ -12,11 +16,12 @@ pub enum Ending {
     Refused(Refusal),
 }
 
-// A record: the offsets behind the round that was read and behind what was written; or how the decoding ended.
-#[derive(Clone, Copy)]
-pub enum Record {
-    Written(usize, usize),
-    Stopped(Ending),
+impl From<Refusal> for Ending {
+    ghost from_gives = { λ f e. e ≡ Refused f };
+
+    fn from(f: Refusal) -> Ending {
+        Ending::Refused(f)
+    }
 }
 
 // Round after round: how it ended, with which window, at which offset of the input, and the offset behind what was written.
