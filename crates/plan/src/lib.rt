@@ -3,7 +3,7 @@
 
 ghost use Rattle.std.specs.Prelude.{◌≡◌, true, ◌&&◌, ◌+◌, ◌-◌, ◌*◌, ◌≤◌, ◌<◌, replicate};
 ghost use Rattle.shape.specs.Choice.{if};
-ghost use Rattle.shape.specs.Sizes.{in_range, sheets_of};
+ghost use Rattle.shape.specs.Sizes.{IsShape, in_range, sheets_of};
 ghost use Rattle.shape.specs.Nodes.{boundary_nodes};
 ghost use Rattle.steps.specs.Models.{of_model};
 ghost use Rattle.steps.specs.Ranks.{bit};
@@ -13,9 +13,13 @@ ghost use Rattle.plan.specs.Passes.{passes, blocks};
 ghost use Rattle.plan.specs.Table.{sizes_of, small, off_by, slot_by, rises_by, head_of, row_number, row_of, fresh_by, area_of, place_row, fresh_on, places_on};
 ghost use Rattle.plan.specs.Filled.{Filled};
 
-use flat::{FRESH, MARGIN, NO_EDGE, PART, PLACES, PLANE, Sizes, TABLE};
+use flat::{FRESH, Layout, MARGIN, NO_EDGE, PART, PLACES, PLANE, Sizes, TABLE};
 use shape::{MAX_SHEET_NODES, Place, Shape};
 use steps::{Shift, Step};
+
+mod shape_layout;
+
+pub use shape_layout::ShapeLayout;
 
 // The rectangle of rows and columns from which a step goes along an edge.
 #[derive(Clone, Copy)]
@@ -352,7 +356,7 @@ fn places(shape: Shape, bottom: usize, table: &mut [u16; TABLE])
 }
 
 // The table of a shape, in an array of zeros.
-pub fn fill(shape: Shape, table: &mut [u16; TABLE])
+fn fill(shape: Shape, table: &mut [u16; TABLE])
     requires distance_value { in_range shape.height shape.distance ≡ true }
     requires table_value { table.old ≡ replicate 7680 0 }
     ensures { Filled (of_model shape.model) shape.height shape.distance table.new }
@@ -362,4 +366,18 @@ pub fn fill(shape: Shape, table: &mut [u16; TABLE])
     numbers(shape, z.bound, table);
     fresh_kinds(shape, table);
     places(shape, MARGIN + z.nodes - z.sheet, table);
+}
+
+// The layout of a shape.
+pub fn lay_out(shape: Shape) -> ShapeLayout
+    requires { IsShape shape }
+    ensures { result.shape ≡ shape }
+{
+    let sizes = sizes(shape);
+    let mut table = [0; TABLE];
+    fill(shape, &mut table);
+    ShapeLayout {
+        shape,
+        layout: Layout { sizes, table },
+    }
 }
