@@ -3,11 +3,11 @@
 
 ghost use Rattle.std.specs.Prelude.{ℕ, ◌+◌, ◌≤◌, ◌<◌, get_or};
 ghost use Rattle.flat.specs.Codes.{growth_of};
-ghost use Rattle.flat.specs.Plan.{plan_of, Safe};
 ghost use Rattle.flat.specs.Step.{list_at};
+ghost use Rattle.flat.specs.Structs.{plan_in};
 ghost use Rattle.queue.specs.Queue.{Queue, Empty, Pushed, Opened};
 
-use flat::{LISTS, PLANE, PLANES, SLOTS, Sizes, TABLE};
+use flat::{LISTS, Layout, PLANE, PLANES};
 
 pub fn push(
     x: usize,
@@ -31,30 +31,22 @@ pub fn push(
 // A node and what lies over its open edges.
 pub fn push_open(
     x: usize,
-    z: Sizes,
+    layout: &Layout,
     from: usize,
     count: usize,
     edges: &[u8; PLANES],
-    table: &[u16; TABLE],
     lists: &mut [u16; LISTS],
     queued: &mut [bool; PLANE],
 ) -> usize
-    requires le_x { (512 ≤ x) × (x < 512 + z.nodes) × (from ≤ 9216) }
-    requires safe { Safe z table.now }
+    requires le_x { (512 ≤ x) × (x < 512 + layout.now.sizes.nodes) × (from ≤ 9216) }
     requires queue { Queue from count lists.old queued.old }
-    ensures { Opened (plan_of z table.now) (λ e. growth_of (get_or edges.now e 0)) x z.dirs from count result lists.old lists.new queued.new }
+    ensures { Opened (plan_in layout.now) (λ e. growth_of (get_or edges.now e 0)) x layout.now.sizes.dirs from count result lists.old lists.new queued.new }
 {
     let mut q = push(x, from, count, lists, queued);
-    let mut k: usize = 0;
-    'ways: while k < z.dirs {
-        let e = flat::over(x, table[SLOTS + k]);
-        if !flat::is_open(edges[e]) {
-            k += 1;
-            continue 'ways;
+    for k in 0..layout.sizes.dirs {
+        if flat::is_open(edges[layout.slot(x, k)]) {
+            q = push(layout.over(x, k), from, q, lists, queued);
         }
-        let j = flat::over(x, table[k]);
-        q = push(j, from, q, lists, queued);
-        k += 1;
     }
     q
 }
@@ -66,9 +58,7 @@ pub fn unqueue(from: usize, count: usize, lists: &[u16; LISTS], queued: &mut [bo
     requires queue { Queue from count lists.now queued.old }
     ensures { Empty queued.new }
 {
-    let mut i: usize = 0;
-    while i < count {
-        queued[lists[from + i] as usize] = false;
-        i += 1;
+    for x in &lists[from..from + count] {
+        queued[*x as usize] = false;
     }
 }

@@ -1,39 +1,35 @@
-use mathlib.Core.Path.{◌≡◌, refl}
-use native.Mathlib.Omega.{arith}
+use Rattle.std.proofs.Common.{rules, ℕ, ◌+◌, ◌-◌, ◌<◌, ◌≤◌, ◌≡◌, List, take, drop, length, get_or, refl, arith, get_or-take, get_or-drop}
+use borrow.Rule.Slice.PartMut.{mid_len}
 use Rattle.flat.specs.Laid.{laid_none, laid_next}
 use Rattle.queue.specs.LawsTrues.{queue-most}
 use Rattle.queue.specs.LawsEmpty.{emptied}
 use Rattle.queue.proofs.unqueue.Goals as goal
 
-pub loop-i-init : goal.loop-i-init
-loop-i-init c = (omega arith, laid_none _ _ _)
+-- an entry of a part of a list
+part-at : (a n : ℕ) (xs : List ℕ) (i : ℕ) → i < n → get_or (take (a + n - a) (drop a xs)) i 0 ≡ get_or xs (a + i) 0
+part-at a n xs i h = let k : i < a + n - a = omega arith in rw get_or-take (get_or-drop a xs i 0)
 
-pub overflow_add-queued : goal.overflow_add-queued
-overflow_add-queued c = let m = queue-most c.requires.queue in omega (arith, m, c.requires.from_bound)
+part_long : (a n : ℕ) (xs : List ℕ) → a ≤ 9216 → n ≤ 4608 → length xs ≡ 13824 → length (take (a + n - a) (drop a xs)) ≡ n
+part_long a n xs f m l = omega (arith, mid_len a (a + n) xs (omega arith))
 
-pub offset_bounds-lists-from : goal.offset_bounds-lists-from
-offset_bounds-lists-from c = let m = queue-most c.requires.queue in omega (arith, m, c.requires.from_bound)
+pub overflow_add-x-items : goal.overflow_add-x-items
+overflow_add-x-items c = let m = queue-most c.requires.queue in omega (arith, m)
 
-pub bounds-lists-from : goal.bounds-lists-from
-bounds-lists-from c = let m = queue-most c.requires.queue in omega (arith, m, c.requires.from_bound)
+pub slice_bounds-x-items-end : goal.slice_bounds-x-items-end
+slice_bounds-x-items-end c = let m = queue-most c.requires.queue in search (rules, m)
 
-pub overflow_cast-queued : goal.overflow_cast-queued
-overflow_cast-queued c = let h = c.requires.by_index c.loop-i.i c.loop-i-test.true in omega (arith, h)
+pub loop-x-init : goal.loop-x-init
+loop-x-init c = laid_none _ _ _
 
-pub bounds-queued-lists : goal.bounds-queued-lists
-bounds-queued-lists c = c.requires.by_index c.loop-i.i c.loop-i-test.true
-
-pub overflow_add-i : goal.overflow_add-i
-overflow_add-i c = let m = queue-most c.requires.queue in omega (arith, m, c.loop-i-test.true)
-
-pub loop-i-smaller : goal.loop-i-smaller
-loop-i-smaller c = omega (arith, c.loop-i-test.true)
-
-pub loop-i-preserved : goal.loop-i-preserved
-loop-i-preserved c = (omega (arith, c.loop-i-test.true), laid_next _ _ _ _ _ _ _ c.loop-i.invariant.1 refl refl)
+pub loop-x-preserved : goal.loop-x-preserved
+loop-x-preserved c =
+    let a = c.args in
+    let p = part_long a.from a.count a.lists.now c.requires.from_bound (queue-most c.requires.queue) c.requires.queue.long in
+    laid_next _ _ _ _ _ _ _ c.loop-x.invariant (part-at a.from a.count a.lists.now c.loop-x.x-index (omega (arith, p))) refl
 
 pub returns : goal.returns
 returns c =
-    let l = c.loop-i in
-    let e : l.i ≡ c.args.count = omega (arith, l.invariant.0, c.loop-i-test.false) in
-    emptied _ _ _ _ _ c.requires.queue (rw e at l.invariant.1)
+    let a = c.args in
+    let p = part_long a.from a.count a.lists.now c.requires.from_bound (queue-most c.requires.queue) c.requires.queue.long in
+    let e : c.loop-x.x-index ≡ a.count = omega (arith, p) in
+    emptied _ _ _ _ _ c.requires.queue (rw e at c.loop-x.invariant)
