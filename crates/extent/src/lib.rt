@@ -19,19 +19,7 @@ pub fn wide(x: u8) -> usize
 pub fn less_one(x: u8) -> usize
     ensures { result ≡ x - 1 }
 {
-    if x == 0 {
-        return 0;
-    }
-    wide(x - 1)
-}
-
-fn less_two(x: u8) -> usize
-    ensures { result ≡ x - 2 }
-{
-    if x < 2 {
-        return 0;
-    }
-    wide(x - 2)
+    (x as usize).saturating_sub(1)
 }
 
 // A product of small numbers, with a bound that sums can go by.
@@ -45,13 +33,13 @@ pub fn product(a: usize, b: usize) -> usize
 pub fn height_ok(h: u32) -> bool
     ensures { result ≡ height_ok h }
 {
-    (1 <= h) & (h <= MAX_HEIGHT as u32)
+    (1..=MAX_HEIGHT as u32).contains(&h)
 }
 
 pub fn distance_ok(d: u32) -> bool
     ensures { result ≡ distance_ok d }
 {
-    (2 <= d) & (d <= MAX_DISTANCE as u32)
+    (2..=MAX_DISTANCE as u32).contains(&d)
 }
 
 pub fn model_ok(m: u32) -> bool
@@ -100,7 +88,7 @@ pub fn ranged(shape: Shape) -> bool
 pub fn sheets(shape: Shape) -> usize
     ensures { result ≡ sheets_of shape.distance }
 {
-    2 * (wide(shape.distance) / 2) + 1
+    2 * (shape.distance as usize / 2) + 1
 }
 
 pub fn is_boundary(shape: Shape, column: u8) -> bool
@@ -112,25 +100,27 @@ pub fn is_boundary(shape: Shape, column: u8) -> bool
 pub fn detectors(shape: Shape) -> usize
     ensures { result ≡ detectors_of shape.height shape.distance }
 {
-    product(wide(shape.height), less_one(shape.distance))
+    shape.height as usize * (shape.distance as usize).saturating_sub(1)
 }
 
 // The diagonals of a layer: NU, EU, SEU.
 fn diagonal_edges(shape: Shape) -> usize
     ensures { (result ≡ diagonal_edges shape.height shape.distance) × (result ≤ 2 ^ 20) }
 {
-    let h = wide(shape.height);
-    let rows = less_one(shape.height);
-    let columns = less_two(shape.distance);
-    product(rows, less_one(shape.distance)) + product(h, columns) + product(rows, columns)
+    let h = shape.height as usize;
+    let d = shape.distance as usize;
+    let rows = h.saturating_sub(1);
+    let columns = d.saturating_sub(2);
+    rows * d.saturating_sub(1) + h * columns + rows * columns
 }
 
 fn plain_edges(shape: Shape) -> usize
     ensures { (result ≡ plain_edges shape.height shape.distance) × (result ≤ 2 ^ 20) }
 {
-    let h = wide(shape.height);
-    let inner = less_one(shape.distance);
-    product(h, wide(shape.distance)) + product(less_one(shape.height), inner) + product(h, inner)
+    let h = shape.height as usize;
+    let d = shape.distance as usize;
+    let inner = d.saturating_sub(1);
+    h * d + h.saturating_sub(1) * inner + h * inner
 }
 
 // The edges of a layer.
@@ -157,41 +147,33 @@ fn nodes_in(shape: Shape, k: usize) -> usize
     requires { k ≤ 2 ^ 10 }
     ensures { result ≡ nodes_in shape.height shape.distance k }
 {
-    product(product(wide(shape.height), wide(shape.distance) + 1), k)
+    shape.height as usize * (shape.distance as usize + 1) * k
 }
 
 // A place in the internal order.
+#[tactic(auto, unfolding(shape::specs::Nodes::index_of))]
 pub fn index_of(shape: Shape, place: Place) -> usize
     ensures { result ≡ index_of shape.height shape.distance place }
 {
-    product(
-        product(wide(place.depth), wide(shape.height)) + wide(place.row),
-        wide(shape.distance) + 1,
-    ) + wide(place.column)
-}
-
-fn side(column: u8) -> u8
-    ensures { result ≡ side_of column }
-{
-    if column == 0 {
-        return 0;
-    }
-    1
+    (place.depth as usize * shape.height as usize + place.row as usize)
+        * (shape.distance as usize + 1)
+        + place.column as usize
 }
 
 // The document's number of a place, the ghost sheet's too.
+#[tactic(auto, unfolding(shape::specs::Nodes::number_of))]
 pub fn number_of(shape: Shape, place: Place) -> usize
     ensures { result ≡ number_of shape.height shape.distance place }
 {
-    let h = wide(shape.height);
-    let depth = wide(place.depth);
-    let row = wide(place.row);
+    let h = shape.height as usize;
+    let depth = place.depth as usize;
+    let row = place.row as usize;
     if is_boundary(shape, place.column) {
-        return product(2 * h, depth) + 2 * row + wide(side(place.column));
+        return 2 * h * depth + 2 * row + (place.column != 0) as usize;
     }
-    let inner = less_one(shape.distance);
-    product(2 * h, sheets(shape) + 1)
-        + product(product(h, inner), depth)
-        + product(inner, row)
-        + less_one(place.column)
+    let inner = (shape.distance as usize).saturating_sub(1);
+    2 * h * (sheets(shape) + 1)
+        + h * inner * depth
+        + inner * row
+        + (place.column as usize).saturating_sub(1)
 }

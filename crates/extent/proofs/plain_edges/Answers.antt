@@ -1,7 +1,0 @@
--- `extent::plain_edges` meets its contract.
--- Assumes nothing.
-use native.Mathlib.Omega.{arith}
-use Rattle.extent.proofs.plain_edges.Goals as goal
-
-pub returns : goal.returns
-returns c = (cc, omega arith)
