@@ -11,19 +11,13 @@ use steps::{Shift, Step};
 fn goes(shift: Shift, a: u8) -> usize
     ensures { result ≡ goes_to shift a }
 {
-    let up = extent::wide(a) + extent::wide(shift.more);
-    let less = extent::wide(shift.less);
-    if up < less {
-        return 0;
-    }
-    up - less
+    (a as usize + shift.more as usize).saturating_sub(shift.less as usize)
 }
 
 fn fits(shift: Shift, a: u8, n: usize) -> bool
     ensures { result ≡ fits_in shift a n }
 {
-    let to = goes(shift, a);
-    (extent::wide(shift.less) <= extent::wide(a) + extent::wide(shift.more)) & (to < n)
+    (shift.less as usize <= a as usize + shift.more as usize) & (goes(shift, a) < n)
 }
 
 fn still(shift: Shift) -> bool
@@ -35,30 +29,26 @@ fn still(shift: Shift) -> bool
 fn along_row(step: Step) -> bool
     ensures { result ≡ along_row step }
 {
-    let row = step.row;
-    let sheet = step.sheet;
-    still(row) & still(sheet)
+    still(step.row) & still(step.sheet)
 }
 
 fn one_apart(shift: Shift) -> bool
     ensures { result ≡ one_apart shift }
 {
-    (extent::wide(shift.less) + 1 == extent::wide(shift.more))
-        | (extent::wide(shift.more) + 1 == extent::wide(shift.less))
+    shift.less.abs_diff(shift.more) == 1
 }
 
 // The step leads to the row neighbour, the only one that a boundary node has.
 pub fn beside(step: Step) -> bool
     ensures { result ≡ beside_in step }
 {
-    let column = step.column;
-    along_row(step) & one_apart(column)
+    along_row(step) & one_apart(step.column)
 }
 
 fn inside(shape: Shape, sheets: usize, place: Place) -> bool
     ensures { result ≡ inside_of shape.height shape.distance sheets place }
 {
-    (extent::wide(place.depth) < sheets)
+    ((place.depth as usize) < sheets)
         & (place.row < shape.height)
         & (place.column <= shape.distance)
 }
@@ -66,24 +56,21 @@ fn inside(shape: Shape, sheets: usize, place: Place) -> bool
 fn both_detectors(shape: Shape, step: Step, place: Place) -> bool
     ensures { result ≡ both_detectors shape.distance step place }
 {
-    let column = step.column;
-    let to = goes(column, place.column);
-    !extent::is_boundary(shape, place.column) & !((to == 0) | (to == extent::wide(shape.distance)))
+    let to = goes(step.column, place.column);
+    !extent::is_boundary(shape, place.column) & !((to == 0) | (to == shape.distance as usize))
 }
 
 // There is an edge from the place along the step, if so many sheets are there.
+#[tactic(auto, unfolding(steps::specs::Steps::joined))]
 fn joined_by(shape: Shape, sheets: usize, step: Step, place: Place) -> bool
     ensures { result ≡ joined_by shape.height shape.distance sheets step place }
 {
-    let row = step.row;
-    let column = step.column;
-    let sheet = step.sheet;
     let within = inside(shape, sheets, place)
-        & fits(row, place.row, extent::wide(shape.height))
-        & fits(column, place.column, extent::wide(shape.distance) + 1)
-        & fits(sheet, place.depth, sheets);
-    let along = along_row(step);
-    within & !(along & still(column)) & (beside(step) | both_detectors(shape, step, place))
+        & fits(step.row, place.row, shape.height as usize)
+        & fits(step.column, place.column, shape.distance as usize + 1)
+        & fits(step.sheet, place.depth, sheets);
+    let stays = along_row(step) & still(step.column);
+    within & !stays & (beside(step) | both_detectors(shape, step, place))
 }
 
 // There is an edge from the place in the direction of the pointer.
