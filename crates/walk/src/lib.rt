@@ -8,22 +8,22 @@ ghost use Rattle.walk.specs.Walk.{place_after, Stands};
 use shape::{Place, Shape};
 
 // The place after, in the internal order.
+#[tactic(auto, unfolding(crate::specs::Walk::place_after))]
 pub fn next_place(shape: Shape, place: Place) -> Place
     requires { place.depth < 255 }
     ensures { result ≡ place_after shape.height shape.distance place }
 {
     if place.column < shape.distance {
         return Place {
-            depth: place.depth,
-            row: place.row,
             column: place.column + 1,
+            ..place
         };
     }
-    if (place.row as usize) + 1 < shape.height as usize {
+    if place.row as usize + 1 < shape.height as usize {
         return Place {
-            depth: place.depth,
             row: place.row + 1,
             column: 0,
+            ..place
         };
     }
     Place {
