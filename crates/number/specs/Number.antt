@@ -1,11 +1,8 @@
 -- A number in a stream: groups of seven bits, lowest first, the high bit set while more follow. Assumes nothing.
-use Rattle.std.specs.Prelude.{ℕ, zero, suc, ◌+◌, ◌-◌, ◌*◌, ◌/◌, ◌%◌, Bool, true, false, ◌&&◌, List, [], ◌∷◌, ltb, leb, eqb, length, get_or}
-use Rattle.refusal.specs.Answer.{Answer, done, refused_at, turned, unless}
+use Rattle.std.specs.Prelude.{ℕ, zero, suc, ◌+◌, ◌-◌, ◌*◌, ◌/◌, ◌%◌, Bool, true, false, ◌&&◌, List, [], ◌∷◌, ltb, leb, eqb, length, get_or, Result}
+use Rattle.refusal.specs.Answer.{Answer, done, refused_at, unless, reading, to_offset}
+use Rattle.refusal.specs.declared.Refusal.{Refusal}
 use Rattle.refusal.specs.Writing.{Buffered, buffered, writing}
-use Rattle.number.specs.declared.Read.{Read}
-use Rattle.number.specs.declared.Read.TheVariants.{Number, Refused}
-use Rattle.number.specs.declared.Wrote.{Wrote}
-use Rattle.number.specs.declared.Wrote.TheVariants.{To, Not}
 
 -- WRITING
 
@@ -61,16 +58,14 @@ number_at s at = unless (in_slice s at ∷ []) (group_at s at most 1 0 at)
 
 -- THE CALLS
 
-abbrev pub number_answer : Read → Answer ℕ
-number_answer (Number n next) = done n next
-number_answer (Refused f) = turned f
+abbrev pub number_answer : Result (ℕ × ℕ) Refusal → Answer ℕ
+number_answer = reading
 
-abbrev pub written_answer : Wrote → Answer (Unit {0})
-written_answer (To next) = done tt next
-written_answer (Not f) = turned f
+abbrev pub written_answer : Result ℕ Refusal → Answer (Unit {0})
+written_answer = to_offset
 
 -- a writer's answer with its buffer
-abbrev pub written_buffered : Wrote → List ℕ → Buffered
+abbrev pub written_buffered : Result ℕ Refusal → List ℕ → Buffered
 written_buffered w buffer = buffered (written_answer w) buffer
 
 abbrev pub write_number : ℕ → List ℕ → ℕ → Buffered

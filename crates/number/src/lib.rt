@@ -7,76 +7,59 @@ ghost use Rattle.number.specs.Number.{number_answer, written_buffered, number_at
 
 use refusal::Refusal;
 
-// What reading a number finds: its value and the offset behind it, or why it is refused.
-#[derive(Clone, Copy)]
-pub enum Read {
-    Number(u32, usize),
-    Refused(Refusal),
-}
-
-// What a writer answers: the offset behind the record, or why nothing was written.
-#[derive(Clone, Copy)]
-pub enum Wrote {
-    To(usize),
-    Not(Refusal),
-}
-
-fn wide(x: u8) -> u64
-    ensures { result ≡ x }
-{
-    x as u64
-}
-
 // The number whose last group is x, after groups that come to sum; first is where the number begins.
-fn last_group(first: usize, weight: u64, sum: u64, x: u64, next: usize) -> Read
+fn last_group(
+    first: usize,
+    weight: u64,
+    sum: u64,
+    x: u64,
+    next: usize,
+) -> Result<(u32, usize), Refusal>
     requires { (weight ≤ 268435456) × (sum < weight) × (x < 128) }
     ensures { number_answer result ≡ last_group first weight sum x next }
 {
     let value = sum + weight * x;
     if (1 < weight) & (x == 0) {
-        return Read::Refused(Refusal::Form(first));
+        return Err(Refusal::Form(first));
     }
-    if 4294967295 < value {
-        return Read::Refused(Refusal::Form(first));
+    if value > u32::MAX as u64 {
+        return Err(Refusal::Form(first));
     }
-    Read::Number(value as u32, next)
+    Ok((value as u32, next))
 }
 
 // The number at an offset, group by group.
-fn read_groups(src: &[u8], at: usize) -> Read
+fn read_groups(src: &[u8], at: usize) -> Result<(u32, usize), Refusal>
     ensures { number_answer result ≡ number_at src.now at }
 {
     if src.len() < at {
-        return Read::Refused(Refusal::Offset);
+        return Err(Refusal::Offset);
     }
-    let mut left: usize = 5;
     let mut weight: u64 = 1;
     let mut sum: u64 = 0;
-    let mut i = at;
-    while 0 < left {
+    for k in 0..5 {
+        let i = at + k;
         if src.len() <= i {
-            return Read::Refused(Refusal::Cut(at));
+            return Err(Refusal::Cut(at));
         }
-        let x = wide(src[i]);
+        let x = src[i] as u64;
         if x < 128 {
             return last_group(at, weight, sum, x, i + 1);
         }
-        sum = sum + weight * (x - 128);
-        weight = weight * 128;
-        i += 1;
-        left -= 1;
+        sum += weight * (x - 128);
+        weight *= 128;
     }
-    Read::Refused(Refusal::Form(at))
+    Err(Refusal::Form(at))
 }
 
 // The number at an offset. One group alone, as almost every skip is, is told by its byte.
-pub fn read_number(src: &[u8], at: usize) -> Read
+pub fn read_number(src: &[u8], at: usize) -> Result<(u32, usize), Refusal>
     ensures { number_answer result ≡ number_at src.now at }
 {
     if at < src.len() {
         let only = src[at];
         if only < 128 {
-            return Read::Number(only as u32, at + 1);
+            return Ok((only as u32, at + 1));
         }
     }
     read_groups(src, at)
@@ -89,40 +72,37 @@ pub fn number_len(n: u64) -> usize
     let mut rest = n;
     let mut count: usize = 1;
     while 128 <= rest {
-        rest = rest / 128;
+        rest /= 128;
         count += 1;
     }
     count
 }
 
-// Writes a number at the front of a buffer and answers its bytes; 0, and nothing written, where it has no room.
-pub fn put_number(n: u64, out: &mut [u8]) -> usize
+// Writes a number at the front of a buffer and answers its bytes; None, and nothing written, where it has no room.
+pub fn put_number(n: u64, out: &mut [u8]) -> Option<usize>
     ensures { put_to result out.new ≡ front out.old (written_of n) }
 {
-    if out.len() < number_len(n) {
-        return 0;
+    let count = number_len(n);
+    if out.len() < count {
+        return None;
     }
+    let last = count - 1;
     let mut rest = n;
-    let mut i: usize = 0;
-    while 128 <= rest {
+    for i in 0..last {
         out[i] = (rest % 128 + 128) as u8;
-        rest = rest / 128;
-        i += 1;
+        rest /= 128;
     }
-    out[i] = rest as u8;
-    i + 1
+    out[last] = rest as u8;
+    Some(count)
 }
 
 // Writes a number from an offset on.
-pub fn write_number(n: u32, out: &mut [u8], at: usize) -> Wrote
+pub fn write_number(n: u32, out: &mut [u8], at: usize) -> Result<usize, Refusal>
     ensures { written_buffered result out.new ≡ write_number n out.old at }
 {
     if out.len() < at {
-        return Wrote::Not(Refusal::Offset);
+        return Err(Refusal::Offset);
     }
-    let count = put_number(n as u64, &mut out[at..]);
-    if count == 0 {
-        return Wrote::Not(Refusal::Room);
-    }
-    Wrote::To(at + count)
+    let count = put_number(n as u64, &mut out[at..]).ok_or(Refusal::Room)?;
+    Ok(at + count)
 }

@@ -1,5 +1,5 @@
 -- What a call on a stream answers, in the documents' numbers. Assumes nothing.
-use Rattle.std.specs.Prelude.{ℕ, Bool, true, false, List, [], ◌∷◌, Option, Some, None, Result, Ok, Err}
+use Rattle.std.specs.Prelude.{ℕ, Bool, true, false, List, [], ◌∷◌, Result, Ok, Err}
 use Rattle.refusal.specs.declared.Refusal.{Refusal}
 use Rattle.refusal.specs.declared.Refusal.TheVariants.{Height, Distance, Detectors, Byte, Edges, Escapes, Cut, Form, Entry, Offset, Room, NotWellFormed, WrongStage, LastRound, Model, Limit}
 

@@ -1,5 +1,5 @@
 -- A buffer that is filled from its front with the bytes of a record. Assumes nothing.
-use Rattle.std.specs.Prelude.{ℕ, suc, ◌+◌, ◌-◌, ◌≤◌, ◌<◌, ◌≡◌, refl, List, [], ◌∷◌, ◌++◌, length, take, drop, get_or, set, Bool}
+use Rattle.std.specs.Prelude.{ℕ, suc, ◌+◌, ◌-◌, ◌≤◌, ◌<◌, ◌≡◌, refl, List, [], ◌∷◌, ◌++◌, length, take, drop, get_or, set, Bool, Some, None}
 use Rattle.std.proofs.Common.{add-one, arith, sym, ◌∙◌, ap, append_assoc, length-append, length-drop, le-leb, take-suc, drop-cons, take_at, drop_at, take-add, drop-drop, length-take-le}
 use Rattle.std.proofs.lemmas.Bool.{lt-leb}
 use Rattle.refusal.specs.Answer.{Answer, done, refused, turned, unless, value_or}
@@ -46,11 +46,11 @@ filled-part bytes old i part rest h e =
     rw (p, q, r, drop-drop, append_assoc) refl
 
 -- what is put at a buffer's front, by whether it has room
-pub front_fits : (old bytes : List ℕ) → length bytes ≤ length old → front old bytes ≡ put_to (length bytes) (bytes ++ drop (length bytes) old)
+pub front_fits : (old bytes : List ℕ) → length bytes ≤ length old → front old bytes ≡ put_to (Some (length bytes)) (bytes ++ drop (length bytes) old)
 unfolding front
 front_fits old bytes h = rw (le-leb (length bytes) (length old) h, front) refl
 
-pub front-full : (old bytes : List ℕ) → length old < length bytes → front old bytes ≡ put_to 0 old
+pub front-full : (old bytes : List ℕ) → length old < length bytes → front old bytes ≡ put_to None old
 unfolding front
 front-full old bytes h = rw (lt-leb (length bytes) (length old) h, front) refl
 

@@ -1,5 +1,5 @@
 -- A record that is put at a buffer's front in parts, one after another. Assumes nothing.
-use Rattle.std.specs.Prelude.{ℕ, ◌+◌, ◌-◌, ◌≤◌, ◌≡◌, refl, List, [], ◌++◌, length, take, drop}
+use Rattle.std.specs.Prelude.{ℕ, ◌+◌, ◌-◌, ◌≤◌, ◌≡◌, refl, List, [], ◌++◌, Some, length, take, drop}
 use Rattle.std.proofs.Common.{arith, sym, ◌∙◌, ap, subst, append-nil, length-append, length-drop, drop_at, length-take-le, drop-drop}
 use Rattle.std.proofs.Math.Seq.{take-append_seam}
 use Rattle.refusal.specs.Writing.{Put, put_to, front}
@@ -42,25 +42,26 @@ module _ {bytes old out : List ℕ} {i : ℕ} {rest : List ℕ} (p : Parts bytes
   pub front-from : front out bytes ≡ front old bytes
   front-from =
       front_fits out bytes (omega (arith, p.room, parts-length))
-      ∙ ap (λ (l : List ℕ). put_to (length bytes) (bytes ++ l)) (behind (length bytes) p.within)
+      ∙ ap (λ (l : List ℕ). put_to (Some (length bytes)) (bytes ++ l)) (behind (length bytes) p.within)
       ∙ sym (front_fits old bytes p.room)
 
 -- nothing is left
-pub parts-end : (bytes old out : List ℕ) (i : ℕ) → Parts bytes old out i [] → put_to i out ≡ front old bytes
+pub parts-end : (bytes old out : List ℕ) (i : ℕ) → Parts bytes old out i [] → put_to (Some i) out ≡ front old bytes
 parts-end bytes old out i p =
     let all : i ≡ length bytes = omega (arith, parts-left p) in
-    ap (λ (l : List ℕ). put_to i l) p.stands
-    ∙ ap (λ (n : ℕ). put_to n (filled bytes old n)) all
-    ∙ ap (λ (l : List ℕ). put_to (length bytes) l) (filled-all bytes old)
+    ap (λ (l : List ℕ). put_to (Some i) l) p.stands
+    ∙ ap (λ (n : ℕ). put_to (Some n) (filled bytes old n)) all
+    ∙ ap (λ (l : List ℕ). put_to (Some (length bytes)) l) (filled-all bytes old)
     ∙ sym (front_fits old bytes p.room)
 
 -- the first part
 pub parts_first : (bytes old part rest : List ℕ) (count : ℕ) (last : List ℕ) → bytes ≡ part ++ rest → length bytes ≤ length old
-    → put_to count last ≡ front old part → Parts bytes old last count rest
+    → put_to (Some count) last ≡ front old part → Parts bytes old last count rest
 parts_first bytes old part rest count last e h put =
     let long : length part + length rest ≡ length bytes = sym (ap length e ∙ length-append part rest) in
     let f = put ∙ front_fits old part (omega arith) in
-    let n : count ≡ length part = ap (λ (p : Put). p.count) f in
+    let s : Some count ≡ Some (length part) = ap (λ (p : Put). p.count) f in
+    let n : count ≡ length part = cc in
     record {
       stands = ap (λ (p : Put). p.buffer) f ∙ rw (n, e, take-append_seam part rest) refl;
       next = rw (n, e, drop_at part rest (length part) refl) refl;
@@ -70,18 +71,18 @@ parts_first bytes old part rest count last e h put =
 
 -- one part more, handed to the tail
 module _ (bytes old out : List ℕ) (i : ℕ) (part rest : List ℕ) (count : ℕ) (last : List ℕ) (p : Parts bytes old out i (part ++ rest))
-    (put : put_to count last ≡ front (tail out i) part) where
+    (put : put_to (Some count) last ≡ front (tail out i) part) where
   fits : length part ≤ length out - i
   fits = omega (arith, parts-left p, length-append part rest, p.room, parts-length p)
 
   pub parts-count : count ≡ length part
-  parts-count = (tail-fits out i (parts-inside p) part count last put fits).0
+  parts-count = let s : Some count ≡ Some (length part) = (tail-fits out i (parts-inside p) part (Some count) last put fits).0 in cc
 
   pub parts_more : Parts bytes old (put_back out i last) (i + count) rest
   parts_more =
       record {
         stands =
-            (tail-fits out i (parts-inside p) part count last put fits).1
+            (tail-fits out i (parts-inside p) part (Some count) last put fits).1
             ∙ ap (λ (l : List ℕ). take i l ++ (part ++ drop (length part) (drop i l))) p.stands
             ∙ filled-part bytes old i part rest p.within p.next
             ∙ ap (λ (n : ℕ). filled bytes old (i + n)) (sym parts-count);
@@ -92,6 +93,6 @@ module _ (bytes old out : List ℕ) (i : ℕ) (part rest : List ℕ) (count : �
 
 -- the last part
 pub parts_last : (bytes old out : List ℕ) (i : ℕ) (part : List ℕ) (count : ℕ) (last : List ℕ) → Parts bytes old out i part
-    → put_to count last ≡ front (tail out i) part → Parts bytes old (put_back out i last) (i + count) []
+    → put_to (Some count) last ≡ front (tail out i) part → Parts bytes old (put_back out i last) (i + count) []
 parts_last bytes old out i part count last p put =
     parts_more bytes old out i part [] count last (subst (λ (l : List ℕ). Parts bytes old out i l) (sym (append-nil part)) p) put

@@ -1,5 +1,5 @@
 -- What a call leaves: its answer and its buffer; and what a writer lays into its buffer. Assumes nothing.
-use Rattle.std.specs.Prelude.{ℕ, ◌+◌, ◌-◌, Bool, true, false, List, [], ◌∷◌, ◌++◌, leb, length, take, drop}
+use Rattle.std.specs.Prelude.{ℕ, ◌+◌, ◌-◌, Bool, true, false, List, [], ◌∷◌, ◌++◌, Option, Some, None, leb, length, take, drop}
 use Rattle.refusal.specs.Answer.{Answer, done, unless, value_or}
 
 -- what a call with one buffer leaves
@@ -24,18 +24,18 @@ writing tests old at bytes =
     let a : Answer (Unit {0}) = unless (tests ++ (room old at bytes ∷ [])) (done tt (at + length bytes)) in
     buffered a (value_or a (λ u. laid old at bytes) old)
 
--- how many bytes were put at a buffer's front, and the buffer
+-- how many bytes were put at a buffer's front, none where they had no room, and the buffer
 pub record Put : Type 0 where
-  pub count : ℕ
+  pub count : Option ℕ
   pub buffer : List ℕ
 
-abbrev pub put_to : ℕ → List ℕ → Put
+abbrev pub put_to : Option ℕ → List ℕ → Put
 put_to n l = record { count = n; buffer = l }
 
 -- the bytes stand in front where they have room; else nothing is written
 unfoldable pub front : List ℕ → List ℕ → Put
 front old bytes =
     elim (leb (length bytes) (length old)) [
-      | true ↦ record { count = length bytes; buffer = bytes ++ drop (length bytes) old }
-      | false ↦ record { count = 0; buffer = old }
+      | true ↦ record { count = Some (length bytes); buffer = bytes ++ drop (length bytes) old }
+      | false ↦ record { count = None; buffer = old }
     ]

@@ -6,15 +6,6 @@ use lib.ListN.{length}
 use Rattle.number.specs.Laws.{written_one, written-more}
 use Rattle.number.proofs.number_len.Goals as goal
 
-pub loop-rest-init : goal.loop-rest-init
-loop-rest-init c = omega arith
-
-pub overflow_add-count : goal.overflow_add-count
-overflow_add-count c = omega arith
-
-pub loop-rest-smaller : goal.loop-rest-smaller
-loop-rest-smaller c = omega arith
-
 pub loop-rest-preserved : goal.loop-rest-preserved
 loop-rest-preserved c = omega (arith, ap length (written-more c.loop-rest.rest c.loop-rest-test.true))
 

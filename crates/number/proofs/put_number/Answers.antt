@@ -1,91 +1,75 @@
 -- `number::put_number` meets its contract: the groups so far stand in the buffer, and those of what is left are still to come.
 -- Assumes nothing.
-use mathlib.Core.Path.{◌≡◌, refl, sym, ◌∙◌, ap}
-use mathlib.Core.List.{List, [], ◌∷◌}
-use Prim.Native.Nat.{ℕ, ◌≤◌, ◌<◌, ◌+◌, ◌/◌, ◌%◌}
-use native.Mathlib.Omega.{arith}
-use lib.ListN.{length, drop, set, length-drop, length-set}
+use Rattle.std.proofs.Common.{◌≡◌, refl, sym, ◌∙◌, ap, ℕ, ◌≤◌, ◌<◌, ◌+◌, ◌-◌, ◌/◌, ◌%◌, Bool, true, false, List, [], ◌∷◌, length, drop, set, arith, length-drop, Some, ltb, ltb-true, ltb-false}
 use Rattle.refusal.specs.Writing.{front, put_to}
 use Rattle.refusal.specs.Filling.{filled, filled_more, filled-all, drop_more, length-filled, front_fits, front-full}
 use Rattle.number.specs.Number.{written}
 use Rattle.number.specs.Laws.{written_one, written-more, length-written}
-use Rattle.number.proofs.put_number.Invariants.{Writing}
 use Rattle.number.proofs.put_number.Goals as goal
 
-module _ (n : ℕ) (old out : List ℕ) (rest i : ℕ) (w : Writing n old out rest i) where
-  -- some group is left
-  before-end : i < length (written n)
-  before-end = omega (arith, ap length w.1, length-drop i (written n), (length-written rest).0)
+-- what has one group is below 128, and what has more is not
+groups-tell : (n : ℕ) (A : Type 0) → (n < 128 → length (written n) ≡ 1 → A) → (128 ≤ n → 1 < length (written n) → A) → A
+groups-tell n A one more = go (ltb n 128) refl
+  where
+    go : (b : Bool) → ltb n 128 ≡ b → A
+    go true e = let h = ltb-true n 128 e in one h (ap length (written_one n h))
+    go false e = let h = ltb-false n 128 e in more h (omega (arith, ap length (written-more n h), (length-written (n / 128)).0))
+
+module _ (n : ℕ) (old out : List ℕ) (rest i count : ℕ) (is : count ≡ length (written n)) (room : count ≤ length old)
+    (w : (out ≡ filled (written n) old i) × (drop i (written n) ≡ written rest)) (l : i ≤ count - 1) where
+  left : i + length (written rest) ≡ count
+  left = omega (arith, ap length w.1, length-drop i (written n), is, l, (length-written n).0)
 
   same : length out ≡ length old
-  same = ap length w.0 ∙ length-filled (written n) old i (omega (arith, before-end)) (omega (arith, before-end, w.2))
+  same = ap length w.0 ∙ length-filled (written n) old i (omega (arith, is, l)) (omega (arith, l, room))
 
-  in_buffer : i < length out
-  in_buffer = omega (arith, before-end, w.2, same)
+  turns : i < count - 1 → (set out i (rest % 128 + 128) ≡ filled (written n) old (i + 1)) × (drop (i + 1) (written n) ≡ written (rest / 128))
+  turns k =
+      groups-tell rest _ (λ h e. absurd (omega (arith, left, e, k)))
+      (λ h e. let f : drop i (written n) ≡ (rest % 128 + 128) ∷ written (rest / 128) = w.1 ∙ written-more rest h in (
+        ap (λ (l : List ℕ). set l i (rest % 128 + 128)) w.0 ∙ filled_more (written n) old i (rest % 128 + 128) (written (rest / 128)) (omega (arith, is, k)) (omega (arith, k, room)) f,
+        drop_more (written n) i (rest % 128 + 128) (written (rest / 128)) f,
+      ))
 
-  turns : 128 ≤ rest → Writing n old (set out i (rest % 128 + 128)) (rest / 128) (i + 1)
-  turns h =
-      let e : drop i (written n) ≡ (rest % 128 + 128) ∷ written (rest / 128) = w.1 ∙ written-more rest h in (
-        ap (λ (l : List ℕ). set l i (rest % 128 + 128)) w.0 ∙ filled_more (written n) old i (rest % 128 + 128) (written (rest / 128)) before-end (omega (arith, before-end, w.2)) e,
-        drop_more (written n) i (rest % 128 + 128) (written (rest / 128)) e,
-        w.2,
-      )
+  module _ (e : count - 1 ≤ i) where
+    small : rest < 128
+    small = groups-tell rest _ (λ h f. h) (λ h f. absurd (omega (arith, left, f, e)))
 
-  ends : rest < 128 → put_to (i + 1) (set out i rest) ≡ front old (written n)
-  ends h =
-      let e : drop i (written n) ≡ rest ∷ [] = w.1 ∙ written_one rest h in
-      let all : i + 1 ≡ length (written n) = omega (arith, ap length e, length-drop i (written n), before-end) in
-      let put : set out i rest ≡ filled (written n) old (i + 1) =
-      ap (λ (l : List ℕ). set l i rest) w.0 ∙ filled_more (written n) old i rest [] before-end (omega (arith, before-end, w.2)) e in
-      rw (put, all, filled-all (written n) old) (sym (front_fits old (written n) w.2))
+    ends : put_to (Some count) (set out (count - 1) rest) ≡ front old (written n)
+    ends =
+        let at : count - 1 ≡ i = omega (arith, l, e) in
+        let f : drop i (written n) ≡ rest ∷ [] = w.1 ∙ written_one rest small in
+        let all : i + 1 ≡ length (written n) = omega (arith, is, l, e, (length-written n).0) in
+        let put : set out i rest ≡ filled (written n) old (i + 1) =
+        ap (λ (l : List ℕ). set l i rest) w.0 ∙ filled_more (written n) old i rest [] (omega (arith, all)) (omega (arith, all, is, room)) f in
+        rw (at, put, all, is, filled-all (written n) old) (sym (front_fits old (written n) (omega (arith, is, room))))
 
-pub returns-then-out-number_len : goal.returns-then-out-number_len
-returns-then-out-number_len c = sym (front-full c.args.out.now (written c.args.n) (omega (arith, c.number_len.ensures)))
+pub returns-then-out-count : goal.returns-then-out-count
+returns-then-out-count c = sym (front-full c.args.out.now (written c.args.n) (omega (arith, c.number_len-count.ensures, c.if-out-count.true)))
 
-pub loop-rest-init : goal.loop-rest-init
-loop-rest-init c = (refl, refl, omega (arith, c.number_len.ensures))
+pub overflow_sub-last : goal.overflow_sub-last
+overflow_sub-last c = omega (arith, c.number_len-count.ensures, (length-written c.args.n).0)
 
-pub bounds-out-i : goal.bounds-out-i
-bounds-out-i c =
-    let l = c.loop-rest in
+pub loop-i-preserved : goal.loop-i-preserved
+loop-i-preserved c =
+    let l = c.loop-i in
     let a = c.args in
-    in_buffer a.n a.out.now l.out l.rest l.i l.invariant
+    turns a.n a.out.now l.out l.rest l.i c.number_len-count.result c.number_len-count.ensures c.if-out-count.false l.invariant (omega (arith, c.loop-i-test.true)) c.loop-i-test.true
 
-pub overflow_add-i : goal.overflow_add-i
-overflow_add-i c =
-    let l = c.loop-rest in
+pub overflow_cast-out-2 : goal.overflow_cast-out-2
+overflow_cast-out-2 c =
+    let l = c.loop-i in
     let a = c.args in
-    omega (arith, before-end a.n a.out.now l.out l.rest l.i l.invariant, l.invariant.2, c.well_formed)
+    let s = small a.n a.out.now l.out l.rest l.i c.number_len-count.result c.number_len-count.ensures c.if-out-count.false l.invariant l.auto.i-end c.loop-i-test.false in omega (arith, s)
 
-pub loop-rest-smaller : goal.loop-rest-smaller
-loop-rest-smaller c = omega arith
-
-pub loop-rest-preserved : goal.loop-rest-preserved
-loop-rest-preserved c =
-    let l = c.loop-rest in
+pub bounds-out-last : goal.bounds-out-last
+bounds-out-last c =
+    let l = c.loop-i in
     let a = c.args in
-    turns a.n a.out.now l.out l.rest l.i l.invariant c.loop-rest-test.true
-
-pub bounds-out-i-2 : goal.bounds-out-i-2
-bounds-out-i-2 c =
-    let l = c.loop-rest in
-    let a = c.args in
-    in_buffer a.n a.out.now l.out l.rest l.i l.invariant
-
-pub overflow_add-result : goal.overflow_add-result
-overflow_add-result c =
-    let l = c.loop-rest in
-    let a = c.args in
-    omega (arith, before-end a.n a.out.now l.out l.rest l.i l.invariant, l.invariant.2, c.well_formed)
-
-pub shape_of-out : goal.shape_of-out
-shape_of-out c =
-    let l = c.loop-rest in
-    let a = c.args in
-    simp length-set (same a.n a.out.now l.out l.rest l.i l.invariant)
+    let s = same a.n a.out.now l.out l.rest l.i c.number_len-count.result c.number_len-count.ensures c.if-out-count.false l.invariant l.auto.i-end in omega (arith, s, c.number_len-count.ensures, (length-written a.n).0, c.if-out-count.false)
 
 pub returns : goal.returns
 returns c =
-    let l = c.loop-rest in
+    let l = c.loop-i in
     let a = c.args in
-    ends a.n a.out.now l.out l.rest l.i l.invariant c.loop-rest-test.false
+    ends a.n a.out.now l.out l.rest l.i c.number_len-count.result c.number_len-count.ensures c.if-out-count.false l.invariant l.auto.i-end c.loop-i-test.false
