@@ -18,7 +18,7 @@ fn mark_fits(stage: Stage, marks: usize, mark: Mark) -> bool
     ensures { result ≡ mark_fits stage marks mark }
 {
     match mark {
-        Mark::Reset => window::is_merging(stage),
+        Mark::Reset => stage == Stage::Merging,
         Mark::Root(m) => (m as usize) < marks,
     }
 }
@@ -34,24 +34,22 @@ pub fn numbers(shape: Shape) -> usize
 fn pointer_fits(shape: Shape, sheets: usize, place: Place, pointer: u8) -> bool
     ensures { result ≡ pointer_fits (of_model shape.model) shape.height shape.distance sheets place pointer }
 {
-    if pointer == 0 {
-        return true;
-    }
-    joins::joined(shape, sheets, pointer, place)
+    pointer == 0 || joins::joined(shape, sheets, pointer, place)
 }
 
 // A node in its fresh state, its own number given.
 fn is_fresh(own: u16, node: Node) -> bool
     ensures { result ≡ is_fresh own node }
 {
-    let mark = node.mark;
-    let Mark::Root(m) = mark else {
-        return false;
-    };
-    (((!node.active & !node.defect) & !node.unrooted) & (node.pointer == 0)) & (m == own)
+    !node.active
+        & !node.defect
+        & !node.unrooted
+        & (node.pointer == 0)
+        & (node.mark == Mark::Root(own))
 }
 
 // A node, where so many sheets are there and pointers may lead to so many; an absent one keeps its fresh state.
+#[tactic(auto, unfolding(window::specs::Formed::node_fits))]
 pub fn node_fits(
     shape: Shape,
     stage: Stage,
@@ -69,17 +67,9 @@ pub fn node_fits(
     if there <= place.depth as usize {
         return is_fresh(walk::number(shape, place, g), node);
     }
-    let mark = node.mark;
-    if !mark_fits(stage, marks, mark) {
-        return false;
-    }
-    if (node.pointer == 0) & !node.defect {
-        return true;
-    }
-    if !pointer_fits(shape, led, place, node.pointer) {
-        return false;
-    }
-    !(extent::is_boundary(shape, place.column) & node.defect)
+    mark_fits(stage, marks, node.mark)
+        && pointer_fits(shape, led, place, node.pointer)
+        && !(extent::is_boundary(shape, place.column) & node.defect)
 }
 
 // Growth is at most 2, and nothing stands in a slot without an edge: the slot of the edge of a kind that the node at a place names. Most slots are
@@ -94,35 +84,29 @@ fn slot_fits(
 ) -> bool
     ensures { result ≡ slot_fits (reach (of_model shape.model) shape.height shape.distance sheets (namer (of_model shape.model) kind) place).there halves correction }
 {
-    if (halves == 0) & !correction {
-        return true;
-    }
-    (halves <= 2) & joins::joined(shape, sheets, steps::namer(shape.model, kind), place)
+    (halves == 0) & !correction
+        || (halves <= 2) & joins::joined(shape, sheets, steps::namer(shape.model, kind), place)
 }
 
 // The slots of node g, one a kind, of a window of n nodes.
-pub fn slots_fit<'a>(
+pub fn slots_fit(
     shape: Shape,
     sheets: usize,
     n: usize,
     place: Place,
     g: usize,
-    growth: &'a [u8],
-    correction: &'a [bool],
+    growth: &[u8],
+    correction: &[bool],
 ) -> bool
     requires g_lt_n { (g < n) × (n ≤ max_nodes) }
     requires n_in_bounds { ((of_model shape.model).kinds * n ≤ length growth.now) × ((of_model shape.model).kinds * n ≤ length correction.now) }
     ensures { result ≡ every (of_model shape.model).kinds (slot_by (of_model shape.model) shape.height shape.distance sheets n place g growth.now correction.now) }
 {
-    let kinds = steps::kinds(shape.model);
-    let mut kind: u8 = 0;
-    let mut e = g;
-    while kind < kinds {
+    for kind in 0..steps::kinds(shape.model) {
+        let e = n * kind as usize + g;
         if !slot_fits(shape, sheets, place, kind, growth[e], correction[e]) {
             return false;
         }
-        e += n;
-        kind += 1;
     }
     true
 }
