@@ -1,4 +1,5 @@
 -- The tests of the state, by what they say. Assumes nothing.
+use Rattle.std.specs.Prelude.{Result, Ok, Err}
 use mathlib.Core.Path.{◌≡◌, refl, sym, ◌∙◌, ap, subst}
 use mathlib.Core.Bool.{Bool, true, false}
 use mathlib.Core.List.{[], ◌∷◌}
@@ -9,8 +10,6 @@ use Rattle.refusal.specs.declared.Refusal.{Refusal}
 use Rattle.steps.specs.Models.{of_model}
 use Rattle.window.specs.Formed.{well_formed}
 use Rattle.window.specs.Calls.{call_answer, state_tests}
-use Rattle.window.specs.declared.Called.{Called}
-use Rattle.window.specs.declared.Called.TheVariants as called
 use Rattle.window.specs.declared.Window.{Window}
 
 abbrev pub fine : Answer (Unit {0})
@@ -30,17 +29,17 @@ module _ (w : Window) (staged : Bool) where
 
 -- and as they are told, of a stage that is the one asked for
 
-module _ (w : Window) (b staged : Bool) (same : b ≡ staged) (r : Called) (as-told : call_answer r ≡ unless (state_tests (of_model w.shape.model) w b) fine) where
+module _ (w : Window) (b staged : Bool) (same : b ≡ staged) (r : Result (Unit {0}) Refusal) (as-told : call_answer r ≡ unless (state_tests (of_model w.shape.model) w b) fine) where
   state : call_answer r ≡ unless (state_tests (of_model w.shape.model) w staged) fine
   state = subst (λ (x : Bool). call_answer r ≡ unless (state_tests (of_model w.shape.model) w x) fine) same as-told
 
-  pub state-turned : (f : Refusal) → r ≡ called.Refused f → Turned (state_tests (of_model w.shape.model) w staged) f
+  pub state-turned : (f : Refusal) → r ≡ Err f → Turned (state_tests (of_model w.shape.model) w staged) f
   state-turned f z = tests-turned (state_tests (of_model w.shape.model) w staged) tt 0 f (sym state ∙ ap call_answer z)
 
-  pub state-passes : r ≡ called.Done → Passes (state_tests (of_model w.shape.model) w staged)
+  pub state-passes : r ≡ Ok tt → Passes (state_tests (of_model w.shape.model) w staged)
   state-passes z = tests-fine (state_tests (of_model w.shape.model) w staged) (sym state ∙ ap call_answer z)
 
-  pub state-fine : r ≡ called.Done → (well_formed (of_model w.shape.model) w ≡ true) × (staged ≡ true)
+  pub state-fine : r ≡ Ok tt → (well_formed (of_model w.shape.model) w ≡ true) × (staged ≡ true)
   state-fine z =
       let a = took (well_formed (of_model w.shape.model) w) _ (refused 21) tt 0 refl (sym state ∙ ap call_answer z) in
       (a.0, (took staged _ (refused 22) tt 0 refl a.1).0)

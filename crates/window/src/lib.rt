@@ -53,6 +53,7 @@ pub struct Window {
 }
 
 // What a step leads to: whether there is an edge, its slot, and the node at its other end.
+// stays: the definition `reach`, under the theorems, gives this record
 #[derive(Clone, Copy)]
 pub struct Way {
     pub there: bool,
