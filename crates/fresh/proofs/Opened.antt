@@ -1,13 +1,14 @@
 -- What opening a window leaves. Assumes nothing.
+use Rattle.std.specs.Prelude.{Result, Ok, Err}
 use Prim.Native.Nat.{ℕ}
 use mathlib.Core.Path.{◌≡◌, sym, ◌∙◌, ap}
-use mathlib.Core.Bool.{true, false}
+use mathlib.Core.Bool.{false}
 use mathlib.Core.List.{List}
 use lib.ListN.{replicate}
 use Rattle.refusal.specs.Answer.{Answer, done, turned, and_then, itself}
 use Rattle.refusal.specs.Laws.{turned-not, turned-passed, value_not, turned_as}
 use Rattle.refusal.specs.declared.Refusal.{Refusal}
-use Rattle.shape.specs.Sizes.{shape_answer, in_range, sheets_of, nodes_of, max_nodes, max_detectors}
+use Rattle.shape.specs.Sizes.{shape_answer, sheets_of, nodes_of, max_nodes, max_detectors}
 use Rattle.creation.specs.Creation.{allowed_shape}
 use Rattle.creation.specs.Laws.{Allowed}
 use Rattle.creation.proofs.Laws.{allowed-is}
@@ -19,8 +20,6 @@ use Rattle.window.specs.Calls.{Answered, given, leaves, fresh_call, fresh_leaves
 use Rattle.shape.specs.Nodes.{number_of, place_at}
 use Rattle.shape.specs.declared.Place.{Place}
 use Rattle.shape.specs.declared.Shape.{Shape}
-use Rattle.shape.specs.declared.Shaped.{Shaped}
-use Rattle.shape.specs.declared.Shaped.TheVariants as shaped
 use Rattle.window.specs.Lists.{over}
 use Rattle.window.specs.declared.Node.{Node}
 use Rattle.window.specs.declared.Stage.TheVariants.{Rest}
@@ -31,8 +30,8 @@ use Rattle.window.specs.declared.Window.{Window}
 fresh_as : Table → Answer Shape → Answered (Unit {0})
 fresh_as T a = leaves (and_then a (λ sh n. done (fresh_window T sh) n)) itself no_window
 
-module _ (h d m largest_height largest_distance : ℕ) (r : Shaped) (made : shape_answer r ≡ allowed_shape h d m largest_height largest_distance) where
-  pub fresh-refused : (f : Refusal) → r ≡ shaped.Refused f → given (turned f) no_window ≡ fresh_leaves (of_model m) h d m largest_height largest_distance
+module _ (h d m largest_height largest_distance : ℕ) (r : Result Shape Refusal) (made : shape_answer r ≡ allowed_shape h d m largest_height largest_distance) where
+  pub fresh-refused : (f : Refusal) → r ≡ Err f → given (turned f) no_window ≡ fresh_leaves (of_model m) h d m largest_height largest_distance
   unfolding fresh_call fresh_as
   fresh-refused f z =
       let e = ap shape_answer (sym z) ∙ made in
@@ -42,13 +41,10 @@ module _ (h d m largest_height largest_distance : ℕ) (r : Shaped) (made : shap
       ))
 
   -- a shape that was made is the named one, and in range
-  made_of : (sh : Shape) → r ≡ shaped.Shape sh → Allowed h d m sh
+  made_of : (sh : Shape) → r ≡ Ok sh → Allowed h d m sh
   made_of sh z = allowed-is h d m largest_height largest_distance sh 0 (sym made ∙ ap shape_answer z)
 
-  pub shape-ranged : (sh : Shape) → r ≡ shaped.Shape sh → in_range sh.height sh.distance ≡ true
-  shape-ranged sh z = let f = made_of sh z in rw (← f.same) f.range.sizes
-
-  pub fresh-done : (sh : Shape) (v : Window) → r ≡ shaped.Shape sh → v ≡ fresh_window (of_model sh.model) sh → given (done tt 0) v ≡ fresh_leaves (of_model m) h d m largest_height largest_distance
+  pub fresh-done : (sh : Shape) (v : Window) → r ≡ Ok sh → v ≡ fresh_window (of_model sh.model) sh → given (done tt 0) v ≡ fresh_leaves (of_model m) h d m largest_height largest_distance
   unfolding fresh_call fresh_as
   fresh-done sh v z y =
       let k : sh.model ≡ m = ap (λ (x : Shape). x.model) (sym (made_of sh z).same) in

@@ -7,8 +7,8 @@ ghost use Rattle.steps.specs.Models.{of_model};
 ghost use Rattle.window.specs.Fresh.{fresh_window, no_window};
 ghost use Rattle.window.specs.Calls.{call_answer, given, fresh_leaves};
 
-use shape::{MAX_DETECTORS, MAX_NODES, Place, Shape, Shaped};
-use window::{Called, Given, MAX_SLOTS, Stage, Window};
+use shape::{MAX_DETECTORS, MAX_NODES, Place, Shape};
+use window::{Given, MAX_SLOTS, Stage, Window};
 
 // What stands where a creation is refused.
 fn no_window() -> Window
@@ -33,18 +33,15 @@ fn fresh_window(shape: Shape) -> Window
     requires { in_range shape.height shape.distance ≡ true }
     ensures { result ≡ fresh_window (of_model shape.model) shape }
 {
-    let n = extent::nodes(shape);
     let mut nodes = [window::alone(0, false); MAX_NODES];
     let mut place = Place {
         depth: 0,
         row: 0,
         column: 0,
     };
-    let mut g: usize = 0;
-    while g < n {
+    for g in 0..extent::nodes(shape) {
         nodes[g] = window::alone(walk::number(shape, place, g), false);
         place = walk::next_place(shape, place);
-        g += 1;
     }
     Window {
         shape,
@@ -64,18 +61,17 @@ pub fn fresh(
     model: u32,
     largest_height: u32,
     largest_distance: u32,
-) -> Given
+) -> Given<()>
     ensures { given (call_answer result.answer) result.window ≡ fresh_leaves (of_model model) height distance model largest_height largest_distance }
 {
-    let shaped = creation::allowed_shape(height, distance, model, largest_height, largest_distance);
-    match shaped {
-        Shaped::Refused(f) => Given {
-            answer: Called::Refused(f),
-            window: no_window(),
-        },
-        Shaped::Shape(shape) => Given {
-            answer: Called::Done,
+    match creation::allowed_shape(height, distance, model, largest_height, largest_distance) {
+        Ok(shape) => Given {
+            answer: Ok(()),
             window: fresh_window(shape),
+        },
+        Err(f) => Given {
+            answer: Err(f),
+            window: no_window(),
         },
     }
 }

@@ -1,6 +1,6 @@
 -- `fresh::fresh_window` meets its contract. Assumes nothing.
 use mathlib.Core.Path.{◌≡◌}
-use Prim.Native.Nat.{◌≤◌, ◌-◌}
+use Prim.Native.Nat.{◌≤◌}
 use lib.ListN.{replicate}
 use Rattle.shape.specs.Sizes.{max_nodes}
 use Rattle.shape.specs.Nodes.{place_at}
@@ -11,7 +11,4 @@ use Rattle.fresh.proofs.fresh_window.Given as goal
 
 abbrev pub invariant-loop-g : goal.invariant-loop-g
 invariant-loop-g l =
-    (l.g ≤ l.n) × (1 ≤ l.shape.height → l.place ≡ place_at l.shape.height l.shape.distance l.g) × (l.nodes ≡ over l.g (numbering l.shape) (replicate max_nodes unused))
-
-abbrev pub decreases-loop-g : goal.decreases-loop-g
-decreases-loop-g l = l.n - l.g
+    (1 ≤ l.shape.height → l.place ≡ place_at l.shape.height l.shape.distance l.g) × (l.nodes ≡ over l.g (numbering l.shape) (replicate max_nodes unused))
