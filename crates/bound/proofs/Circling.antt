@@ -5,7 +5,7 @@ use Rattle.std.proofs.Common.{arith, sym, ◌∙◌, ap}
 use Rattle.refusal.specs.Answer.{done}
 use Rattle.refusal.specs.Laws.{undone}
 use Rattle.steps.specs.Steps.{base}
-use Rattle.window.specs.AbsentWitness.{after, stage}
+use Rattle.window.specs.AbsentWitness.{after}
 use Rattle.window.specs.Merging.{merged}
 use Rattle.window.specs.Run.{steps_from, ran}
 use Rattle.window.specs.LawsRun.{steps_on, none_left, ran-grown}

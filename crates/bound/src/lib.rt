@@ -4,7 +4,7 @@
 ghost use Rattle.std.specs.Prelude.{◌≡◌};
 ghost use Rattle.bound.specs.Bound.{bound_of, step_bound};
 
-use shape::{Shape, Shaped};
+use shape::Shape;
 
 fn bound_of(shape: Shape) -> usize
     ensures { result ≡ bound_of shape }
@@ -17,7 +17,7 @@ pub fn step_bound(height: u32, distance: u32, model: u32) -> usize
     ensures { result ≡ step_bound height distance model }
 {
     match extent::shape_of(height, distance, model) {
-        Shaped::Shape(shape) => bound_of(shape),
-        Shaped::Refused(_) => 0,
+        Ok(shape) => bound_of(shape),
+        Err(_) => 0,
     }
 }
