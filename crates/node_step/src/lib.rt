@@ -2,13 +2,12 @@
 #![tactic(auto)]
 
 ghost use Rattle.std.specs.Prelude.{◌≡◌, ◌+◌, ◌≤◌, ◌<◌};
-ghost use Rattle.flat.specs.Entries.{state_of};
-ghost use Rattle.flat.specs.Plan.{plan_of, Safe};
 ghost use Rattle.flat.specs.Rule.{busy_at};
+ghost use Rattle.flat.specs.Structs.{plan_in, state_in};
 ghost use Rattle.node_step.specs.Words.{mark_in, node_in, stir_in, Holds};
 ghost use Rattle.node_step.specs.After.{Joined, Tells};
 
-use flat::{Flood, PLANE, PLANES, RESET, Sizes, TABLE};
+use flat::{Arrays, Flood, Layout, RESET};
 
 // The word that holds what becomes of a node, and whether the node is busy.
 #[derive(Clone, Copy)]
@@ -21,7 +20,7 @@ pub struct After {
 fn word(mark: u16, node: u8, stir: bool) -> u32
     ensures { Holds mark node stir result }
 {
-    mark as u32 + 65536 * (node as u32) + 16777216 * (window::bit(stir) as u32)
+    u32::from(mark) + 65536 * u32::from(node) + 16777216 * u32::from(stir)
 }
 
 pub fn mark_in(w: u32) -> u16
@@ -58,22 +57,13 @@ fn joined(v: u8, m: u16, f: Flood, lit: bool, left: bool) -> After
 }
 
 // What becomes of a node in one step.
-pub fn node_after(
-    x: usize,
-    z: Sizes,
-    sending: bool,
-    nodes: &[u8; PLANE],
-    marks: &[u16; PLANE],
-    edges: &[u8; PLANES],
-    table: &[u16; TABLE],
-) -> After
-    requires le_x { (512 ≤ x) × (x < 512 + z.nodes) }
-    requires safe { Safe z table.now }
-    ensures tells { Tells (plan_of z table.now) (state_of nodes.now marks.now edges.now) sending x result.word }
-    ensures busy_value { result.busy ≡ busy_at (plan_of z table.now) (state_of nodes.now marks.now edges.now) x }
+pub fn node_after(x: usize, layout: &Layout, sending: bool, arrays: &Arrays) -> After
+    requires le_x { (512 ≤ x) × (x < 512 + layout.now.sizes.nodes) }
+    ensures tells { Tells (plan_in layout.now) (state_in arrays.now) sending x result.word }
+    ensures busy_value { result.busy ≡ busy_at (plan_in layout.now) (state_in arrays.now) x }
 {
-    let f = flooding::flooded(x, z, nodes, marks, edges, table);
-    let lit = syncing::active_after(x, z, nodes, table);
-    let left = syncing::defect_after(x, z, sending, nodes, edges, table);
-    joined(nodes[x], marks[x], f, lit, left)
+    let f = flooding::flooded(x, layout, arrays);
+    let lit = syncing::active_after(x, layout, &arrays.nodes);
+    let left = syncing::defect_after(x, layout, sending, &arrays.nodes, &arrays.edges);
+    joined(arrays.nodes[x], arrays.marks[x], f, lit, left)
 }
