@@ -5,12 +5,12 @@
 ghost use Rattle.std.specs.Prelude.{◌≡◌, true, [], ℕ, ◌+◌, ◌≤◌, ◌<◌, get_or, length};
 ghost use Rattle.flat.specs.Entries.{state_of};
 ghost use Rattle.flat.specs.Laid.{laid};
-ghost use Rattle.flat.specs.Plan.{plan_of, Safe};
 ghost use Rattle.flat.specs.Rule.{sender};
 ghost use Rattle.flat.specs.Step.{list_at, Places};
+ghost use Rattle.flat.specs.Structs.{plan_in};
 ghost use Rattle.edge_step.specs.Edges.{TurnedEdge, edge_in, number_in, Turn, Turns, Flipped};
 
-use flat::{BACKS, LISTS, NO_EDGE, PLANE, PLANES, SLOTS, Sizes, TABLE};
+use flat::{BACKS, LISTS, Layout, NO_EDGE, PLANE, PLANES};
 
 // An edge's number after the pushes of its two ends.
 fn turned(v: u8, mine: bool, theirs: bool) -> u8
@@ -24,51 +24,39 @@ fn turned(v: u8, mine: bool, theirs: bool) -> u8
 }
 
 // The edge along which a node sends, in a word: 256 times its place, and its number after the step. The node over it may send back.
-fn turn_along(
-    x: usize,
-    z: Sizes,
-    nodes: &[u8; PLANE],
-    edges: &[u8; PLANES],
-    table: &[u16; TABLE],
-) -> u32
-    requires le_x { (512 ≤ x) × (x < 512 + z.nodes) }
-    requires safe { Safe z table.now }
-    requires x_value { sender (plan_of z table.now) (state_of nodes.now [] edges.now) x ≡ true }
-    ensures { Turn (plan_of z table.now) (state_of nodes.now [] edges.now) x result }
+fn turn_along(x: usize, layout: &Layout, nodes: &[u8; PLANE], edges: &[u8; PLANES]) -> u32
+    requires le_x { (512 ≤ x) × (x < 512 + layout.now.sizes.nodes) }
+    requires x_value { sender (plan_in layout.now) (state_of nodes.now [] edges.now) x ≡ true }
+    ensures { Turn (plan_in layout.now) (state_of nodes.now [] edges.now) x result }
 {
     let k = flat::pointer(nodes[x]) as usize - 1;
-    let e = flat::over(x, table[SLOTS + k]);
-    let j = flat::over(x, table[k]);
-    let theirs = syncing::pushes(nodes[j], table[BACKS + k]);
-    256 * (e as u32) + turned(edges[e], true, theirs) as u32
+    let e = layout.slot(x, k);
+    let j = layout.over(x, k);
+    let theirs = syncing::pushes(nodes[j], layout.table[BACKS + k]);
+    256 * (e as u32) + u32::from(turned(edges[e], true, theirs))
 }
 
 // The words of the listed nodes that send, and how many there are.
 fn gather_turns(
-    z: Sizes,
+    layout: &Layout,
     from: usize,
     count: usize,
     nodes: &[u8; PLANE],
     edges: &[u8; PLANES],
-    table: &[u16; TABLE],
     lists: &[u16; LISTS],
     words: &mut [u32; PLANE],
 ) -> usize
-    requires count_bound { (from + count ≤ 13824) × (count ≤ 4608) × (length words.old ≡ 4608) }
-    requires safe { Safe z table.now }
-    requires places { Places z.nodes count (list_at lists.now from) }
-    ensures { Turns (plan_of z table.now) (state_of nodes.now [] edges.now) (list_at lists.now from) count result words.new }
+    requires count_bound { (from + count ≤ 13824) × (count ≤ 4608) }
+    requires places { Places layout.now.sizes.nodes count (list_at lists.now from) }
+    ensures { Turns (plan_in layout.now) (state_of nodes.now [] edges.now) (list_at lists.now from) count result words.new }
 {
-    let mut made: usize = 0;
-    let mut i: usize = 0;
-    'nodes: while i < count {
-        let x = lists[from + i] as usize;
-        i += 1;
-        if !syncing::sends(nodes[x]) {
-            continue 'nodes;
+    let mut made = 0;
+    for &x in &lists[from..from + count] {
+        let x = x as usize;
+        if syncing::sends(nodes[x]) {
+            words[made] = turn_along(x, layout, nodes, edges);
+            made += 1;
         }
-        words[made] = turn_along(x, z, nodes, edges, table);
-        made += 1;
     }
     made
 }
@@ -79,32 +67,26 @@ fn lay_turns(made: usize, edges: &mut [u8; PLANES], words: &[u32; PLANE])
     requires by_index { (j : ℕ) → j < made → edge_in (get_or words.now j 0) < 27648 }
     ensures { edges.new ≡ laid (λ j. edge_in (get_or words.now j 0)) (λ j. number_in (get_or words.now j 0)) made edges.old }
 {
-    let mut i: usize = 0;
-    while i < made {
-        let w = words[i];
+    for &w in &words[..made] {
         edges[(w / 256) as usize] = (w % 256) as u8;
-        i += 1;
     }
 }
 
 // The correction bits of the edges along which listed nodes send, and whether some node does.
 pub fn flips(
-    z: Sizes,
+    layout: &Layout,
     from: usize,
     count: usize,
     nodes: &[u8; PLANE],
     edges: &mut [u8; PLANES],
-    table: &[u16; TABLE],
     lists: &[u16; LISTS],
     words: &mut [u32; PLANE],
 ) -> bool
-    requires count_bound { (from + count ≤ 13824) × (count ≤ 4608) × (length edges.old ≡ 27648) × (length words.old ≡ 4608) }
-    requires safe { Safe z table.now }
-    requires places { Places z.nodes count (list_at lists.now from) }
-    ensures flipped { Flipped (plan_of z table.now) (state_of nodes.now [] edges.old) count (list_at lists.now from) result edges.new }
-    ensures words_len { length words.new ≡ 4608 }
+    requires count_bound { (from + count ≤ 13824) × (count ≤ 4608) }
+    requires places { Places layout.now.sizes.nodes count (list_at lists.now from) }
+    ensures flipped { Flipped (plan_in layout.now) (state_of nodes.now [] edges.old) count (list_at lists.now from) result edges.new }
 {
-    let made = gather_turns(z, from, count, nodes, edges, table, lists, words);
+    let made = gather_turns(layout, from, count, nodes, edges, lists, words);
     lay_turns(made, edges, words);
     0 < made
 }

@@ -1,0 +1,2 @@
+-- items of a range of an array
+pub mod Items
