@@ -6,7 +6,6 @@ ghost use Rattle.shape.specs.Choice.{if};
 ghost use Rattle.shape.specs.Sizes.{IsShape, in_range, sheets_of};
 ghost use Rattle.shape.specs.Nodes.{boundary_nodes};
 ghost use Rattle.steps.specs.Models.{of_model};
-ghost use Rattle.steps.specs.Ranks.{bit};
 ghost use Rattle.layers.specs.Boxes.{first as first_in, end as end_in, rows, columns, within, named};
 ghost use Rattle.flat.specs.Stored.{stored};
 ghost use Rattle.plan.specs.Passes.{passes, blocks};
@@ -18,8 +17,10 @@ use shape::{MAX_SHEET_NODES, Place, Shape};
 use steps::{Shift, Step};
 
 mod shape_layout;
+mod storing;
 
 pub use shape_layout::ShapeLayout;
+pub use storing::store;
 
 // The rectangle of rows and columns from which a step goes along an edge.
 #[derive(Clone, Copy)]
@@ -35,12 +36,12 @@ pub fn sizes(shape: Shape) -> Sizes
     requires { in_range shape.height shape.distance ≡ true }
     ensures { result ≡ sizes_of (of_model shape.model) shape.height shape.distance }
 {
-    let h = extent::wide(shape.height);
+    let h = shape.height as usize;
     Sizes {
-        dirs: extent::wide(steps::dirs(shape.model)),
-        kinds: extent::wide(steps::kinds(shape.model)),
+        dirs: steps::dirs(shape.model) as usize,
+        kinds: steps::kinds(shape.model) as usize,
         nodes: extent::nodes(shape),
-        sheet: extent::product(h, extent::wide(shape.distance) + 1),
+        sheet: h * (shape.distance as usize + 1),
         bound: extent::product(2 * h, extent::sheets(shape) + 1) as u16,
     }
 }
@@ -53,9 +54,12 @@ fn off(shape: Shape, step: Step) -> u16
     requires step_value { small step ≡ true }
     ensures { result ≡ off_by shape.height shape.distance step }
 {
-    let row = step.row;
-    let column = step.column;
-    let sheet = step.sheet;
+    let Step {
+        row,
+        column,
+        sheet,
+        ..
+    } = step;
     let on = extent::index_of(
         shape,
         Place {
@@ -100,18 +104,8 @@ fn slot(shape: Shape, step: Step) -> u16
 fn rises(model: u8, kind: u8) -> bool
     ensures { result ≡ rises_by (named (of_model model) kind) }
 {
-    let step = steps::step_of(model, steps::namer(model, kind));
-    let sheet = step.sheet;
+    let sheet = steps::step_of(model, steps::namer(model, kind)).sheet;
     sheet.more < sheet.less
-}
-
-fn flag(set: bool) -> u16
-    ensures { result ≡ bit set }
-{
-    if set {
-        return 1;
-    }
-    0
 }
 
 // An entry of the first six parts, of 32 entries each.
@@ -120,36 +114,23 @@ fn head(shape: Shape, i: usize) -> u16
     requires i_bound { i < 192 }
     ensures { result ≡ head_of (of_model shape.model) shape.height shape.distance i }
 {
-    let part = i / PART;
     let k = (i % PART) as u8;
     let step = steps::step_of(shape.model, k + 1);
-    if part == 0 {
-        return off(shape, step);
+    match i / PART {
+        0 => off(shape, step),
+        1 => slot(shape, step),
+        2 => step.back as u16,
+        3 => steps::namer(shape.model, k).saturating_sub(1) as u16,
+        4 => u16::from(steps::falls(shape.model, k)),
+        _ => u16::from(rises(shape.model, k)),
     }
-    if part == 1 {
-        return slot(shape, step);
-    }
-    if part == 2 {
-        return step.back as u16;
-    }
-    if part == 3 {
-        return extent::less_one(steps::namer(shape.model, k)) as u16;
-    }
-    if part == 4 {
-        return flag(steps::falls(shape.model, k));
-    }
-    flag(rises(shape.model, k))
 }
 
 fn heads(shape: Shape, table: &mut [u16; TABLE])
     requires { in_range shape.height shape.distance ≡ true }
     ensures { table.new ≡ stored 0 (head_of (of_model shape.model) shape.height shape.distance) 192 table.old }
 {
-    let mut i: usize = 0;
-    while i < 192 {
-        table[i] = head(shape, i);
-        i += 1;
-    }
+    store(0, 6 * PART, |i| head(shape, i), table);
 }
 
 // NUMBERS
@@ -159,24 +140,12 @@ fn number_at(d: usize, low: u16, high: u16, c: usize) -> u16
     requires { (low ≤ 1000) × (high ≤ 8000) × (c ≤ 15) }
     ensures { result ≡ row_number d low high c }
 {
-    let inner = high + c as u16;
     if c == 0 {
-        return low;
-    }
-    if c == d {
-        return low + 1;
-    }
-    inner
-}
-
-fn numbers_row(x: usize, d: usize, low: u16, high: u16, table: &mut [u16; TABLE])
-    requires { (x ≤ 4608) × (low ≤ 1000) × (high ≤ 8000) × (d ≤ 15) }
-    ensures { table.new ≡ stored x (row_number d low high) (d + 1) table.old }
-{
-    let mut c: usize = 0;
-    while c < d + 1 {
-        table[x + c] = number_at(d, low, high, c);
-        c += 1;
+        low
+    } else if c == d {
+        low + 1
+    } else {
+        high + c as u16
     }
 }
 
@@ -186,88 +155,78 @@ fn numbers(shape: Shape, bound: u16, table: &mut [u16; TABLE])
     requires bound_value { bound ≡ boundary_nodes shape.height shape.distance }
     ensures { table.new ≡ blocks 512 (shape.distance + 1) (row_of shape.height shape.distance) (shape.distance + 1) (shape.height * sheets_of shape.distance) table.old }
 {
-    let d = extent::wide(shape.distance);
-    let n = extent::product(extent::wide(shape.height), extent::sheets(shape));
-    let inner = extent::less_one(shape.distance) as u16;
-    let mut x = MARGIN;
-    let mut low: u16 = 0;
-    let mut high = bound - 1;
-    let mut r: usize = 0;
-    while r < n {
-        numbers_row(x, d, low, high, table);
-        x += d + 1;
-        low += 2;
-        high += inner;
-        r += 1;
+    let d = shape.distance as usize;
+    let inner = (shape.distance as u16).saturating_sub(1);
+    for r in 0..shape.height as usize * extent::sheets(shape) {
+        let low = r as u16 * 2;
+        let high = bound - 1 + r as u16 * inner;
+        store(
+            MARGIN + r * (d + 1),
+            d + 1,
+            |c| number_at(d, low, high, c),
+            table,
+        );
     }
 }
 
 // EDGES
 
-fn less(a: usize, b: usize) -> usize
-    ensures { result ≡ a - b }
-{
-    if a < b {
-        return 0;
-    }
-    a - b
-}
-
 fn first(shift: Shift) -> usize
     ensures { result ≡ first_in shift }
 {
-    less(extent::wide(shift.less), extent::wide(shift.more))
+    shift.less.saturating_sub(shift.more) as usize
 }
 
 fn end(shift: Shift, n: usize) -> usize
     ensures { result ≡ end_in shift n }
 {
-    less(n, less(extent::wide(shift.more), extent::wide(shift.less)))
+    n.saturating_sub(shift.more.saturating_sub(shift.less) as usize)
 }
 
-fn area_of(shape: Shape, kind: u8) -> Area
-    ensures { result ≡ area_of shape.height shape.distance (named (of_model shape.model) kind) }
-{
-    let step = steps::step_of(shape.model, steps::namer(shape.model, kind));
-    let row = step.row;
-    let column = step.column;
-    let d = extent::wide(shape.distance);
-    let top = first(row);
-    let bottom = end(row, extent::wide(shape.height));
-    if joins::beside(step) {
-        return Area {
-            top,
-            bottom,
-            left: first(column),
-            right: end(column, d + 1),
+impl Area {
+    // The area of a kind's edges in a sheet.
+    fn of(shape: Shape, kind: u8) -> Area
+        ensures { result ≡ area_of shape.height shape.distance (named (of_model shape.model) kind) }
+    {
+        let step = steps::step_of(shape.model, steps::namer(shape.model, kind));
+        let d = shape.distance as usize;
+        let (left, right) = if joins::beside(step) {
+            (first(step.column), end(step.column, d + 1))
+        } else {
+            (1 + first(step.column), end(step.column, d))
         };
+        Area {
+            top: first(step.row),
+            bottom: end(step.row, shape.height as usize),
+            left,
+            right,
+        }
     }
-    Area {
-        top,
-        bottom,
-        left: 1 + first(column),
-        right: end(column, d),
+
+    // It has the place at a row and a column.
+    fn has(self, row: usize, column: usize) -> bool
+        ensures { result ≡ (within self.top self.bottom row && within self.left self.right column) }
+    {
+        self.top <= row && row < self.bottom && self.left <= column && column < self.right
+    }
+
+    fn rows(self) -> usize
+        ensures { result ≡ self.bottom - self.top }
+    {
+        self.bottom.saturating_sub(self.top)
+    }
+
+    fn columns(self) -> usize
+        ensures { result ≡ self.right - self.left }
+    {
+        self.right.saturating_sub(self.left)
     }
 }
 
 fn fresh(there: bool) -> u16
     ensures { result ≡ fresh_by there }
 {
-    if there {
-        return 0;
-    }
-    NO_EDGE as u16
-}
-
-fn fresh_row(x: usize, n: usize, there: bool, left: usize, right: usize, table: &mut [u16; TABLE])
-    requires { (x ≤ 6144) × (n ≤ 16) }
-    ensures { table.new ≡ stored x (λ c. fresh_by (there && within left right c)) n table.old }
-{
-    let mut c: usize = 0;
-    while c < n {
-        table[x + c] = fresh(there & ((left <= c) & (c < right)));
-        c += 1;
-    }
+    if there { 0 } else { NO_EDGE as u16 }
 }
 
 // A fresh sheet's edges of a kind.
@@ -276,16 +235,15 @@ fn fresh_kind(shape: Shape, kind: u8, table: &mut [u16; TABLE])
     requires kind_bound { kind < 6 }
     ensures { table.new ≡ fresh_on (of_model shape.model) shape.height shape.distance kind table.old }
 {
-    let area = area_of(shape, kind);
-    let h = extent::wide(shape.height);
-    let w = extent::wide(shape.distance) + 1;
-    let mut x = FRESH + MAX_SHEET_NODES * extent::wide(kind);
-    let mut r: usize = 0;
-    while r < h {
-        let there = (area.top <= r) & (r < area.bottom);
-        fresh_row(x, w, there, area.left, area.right, table);
-        x += w;
-        r += 1;
+    let area = Area::of(shape, kind);
+    let w = shape.distance as usize + 1;
+    for r in 0..shape.height as usize {
+        store(
+            FRESH + MAX_SHEET_NODES * kind as usize + r * w,
+            w,
+            |c| fresh(area.has(r, c)),
+            table,
+        );
     }
 }
 
@@ -293,27 +251,12 @@ fn fresh_kinds(shape: Shape, table: &mut [u16; TABLE])
     requires { in_range shape.height shape.distance ≡ true }
     ensures { table.new ≡ passes (fresh_on (of_model shape.model) shape.height shape.distance) (of_model shape.model).kinds table.old }
 {
-    let kinds = steps::kinds(shape.model);
-    let mut kind: u8 = 0;
-    while kind < kinds {
+    for kind in 0..steps::kinds(shape.model) {
         fresh_kind(shape, kind, table);
-        kind += 1;
     }
 }
 
-// A row of edges: their cells follow each other.
-fn places_row(x: usize, n: usize, from: usize, table: &mut [u16; TABLE])
-    requires { (x + n ≤ 7680) × (from + n ≤ 65536) }
-    ensures { table.new ≡ stored x (λ i. from + i) n table.old }
-{
-    let mut i: usize = 0;
-    while i < n {
-        table[x + i] = (from + i) as u16;
-        i += 1;
-    }
-}
-
-// The bottom layer's edges of a kind; the entry behind them.
+// The bottom layer's edges of a kind, the cells of a row one after the other; the entry behind them.
 fn places_kind(
     shape: Shape,
     kind: u8,
@@ -325,20 +268,15 @@ fn places_kind(
     requires kind_bound { (kind < 6) × (bottom ≤ 3872) × (start ≤ 6144 + 240 * kind) }
     ensures { (result ≡ start + rows shape.height (named (of_model shape.model) kind) * columns shape.distance (named (of_model shape.model) kind)) × (table.new ≡ blocks start (columns shape.distance (named (of_model shape.model) kind)) (place_row shape.distance bottom (named (of_model shape.model) kind) kind) (columns shape.distance (named (of_model shape.model) kind)) (rows shape.height (named (of_model shape.model) kind)) table.old) }
 {
-    let area = area_of(shape, kind);
-    let w = extent::wide(shape.distance) + 1;
-    let n = less(area.right, area.left);
-    let m = less(area.bottom, area.top);
-    let mut x = start;
-    let mut from = PLANE * extent::wide(kind) + bottom + extent::product(area.top, w) + area.left;
-    let mut i: usize = 0;
-    while i < m {
-        places_row(x, n, from, table);
-        x += n;
-        from += w;
-        i += 1;
+    let area = Area::of(shape, kind);
+    let w = shape.distance as usize + 1;
+    let (m, n) = (area.rows(), area.columns());
+    let corner = PLANE * kind as usize + bottom + area.top * w + area.left;
+    for i in 0..m {
+        let from = corner + i * w;
+        store(start + i * n, n, |c| (from + c) as u16, table);
     }
-    x
+    start + m * n
 }
 
 fn places(shape: Shape, bottom: usize, table: &mut [u16; TABLE])
@@ -346,12 +284,9 @@ fn places(shape: Shape, bottom: usize, table: &mut [u16; TABLE])
     requires bottom_bound { bottom ≤ 3872 }
     ensures { table.new ≡ passes (places_on (of_model shape.model) shape.height shape.distance bottom) (of_model shape.model).kinds table.old }
 {
-    let kinds = steps::kinds(shape.model);
     let mut start = PLACES;
-    let mut kind: u8 = 0;
-    while kind < kinds {
+    for kind in 0..steps::kinds(shape.model) {
         start = places_kind(shape, kind, bottom, start, table);
-        kind += 1;
     }
 }
 

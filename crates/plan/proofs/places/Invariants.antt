@@ -1,6 +1,5 @@
 -- `plan::places` meets its contract. Assumes nothing.
-use mathlib.Core.Path.{◌≡◌}
-use Prim.Native.Nat.{◌≤◌, ◌-◌, ◌+◌}
+use Rattle.std.proofs.Common.{◌≡◌, ◌+◌}
 use Rattle.plan.specs.Passes.{passes}
 use Rattle.plan.specs.Table.{places_on}
 use Rattle.steps.specs.Models.{of_model}
@@ -8,7 +7,4 @@ use Rattle.layers.specs.Boxes.{areas}
 use Rattle.plan.proofs.places.Given as goal
 
 abbrev pub invariant-loop-kind : goal.invariant-loop-kind
-invariant-loop-kind l = (l.kind ≤ l.kinds) × (l.start ≡ 6144 + areas (of_model l.shape.model) l.shape.height l.shape.distance l.kind) × (l.table ≡ passes (places_on (of_model l.shape.model) l.shape.height l.shape.distance l.bottom) l.kind l.initial.table)
-
-abbrev pub decreases-loop-kind : goal.decreases-loop-kind
-decreases-loop-kind l = l.kinds - l.kind
+invariant-loop-kind l = (l.start ≡ 6144 + areas (of_model l.shape.model) l.shape.height l.shape.distance l.kind) × (l.table ≡ passes (places_on (of_model l.shape.model) l.shape.height l.shape.distance l.bottom) l.kind l.initial.table)
