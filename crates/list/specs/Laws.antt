@@ -3,12 +3,14 @@ use Rattle.std.specs.Prelude.{ℕ, zero, suc, ◌+◌, ◌-◌, ◌*◌, ◌≤�
 use Rattle.std.proofs.Common.{arith, sym, ◌∙◌, ap, length-append, length-set}
 use Rattle.std.proofs.Math.Path.{refl}
 use borrow.Author.Tests.{lt-ltb, le-ltb, le-leb, lt-leb, eq-eqb, ne_eqb, eqb-true, ltb-true, ltb-false}
-use Rattle.refusal.specs.Answer.{Answer, done, ended, refused, refused_at, and_then, is_done, without_value}
-use Rattle.refusal.specs.Laws.{not_done}
-use Rattle.refusal.specs.Done.{goes_on_lem, passes, fails}
+use Rattle.refusal.specs.Answer.{Answer, done, ended, refused, refused_at, turned, and_then, is_done, without_value, value_or, itself}
+use Rattle.refusal.specs.Laws.{not_done, turned-passed, turned-not, value_not}
+use Rattle.refusal.specs.Writing.{buffered}
+use Rattle.refusal.specs.declared.Refusal.{Refusal}
+use Rattle.refusal.specs.Done.{went, took, goes_on_lem, passes, fails}
 use Rattle.number.specs.Number.{written, number_at}
 use Rattle.number.specs.Laws.{length-written}
-use Rattle.list.specs.Sheet.{ones, skips, listed, entries_at, list_at, are_bits}
+use Rattle.list.specs.Sheet.{ones, skips, listed, entries_at, list_at, count_at, place_at, are_bits, read_into}
 
 -- WRITTEN
 
@@ -165,3 +167,52 @@ entries-alike s (suc n) from at xs ys e = go (number_at s at) refl (λ k next. e
     go ended d r = stops (ap (λ (a : Answer ℕ). is_done a) d)
     go (refused m) d r = stops (ap (λ (a : Answer ℕ). is_done a) d)
     go (refused_at m o) d r = stops (ap (λ (a : Answer ℕ). is_done a) d)
+
+-- BY STEPS, of which each reads a number and tests it
+
+-- a number that is tested, and what is done with it
+bounded : {B : Type 0} (a : Answer ℕ) (test : ℕ → Bool) (value : ℕ → ℕ) (at : ℕ) (g : ℕ → ℕ → Answer B)
+    → and_then a (λ k next. elim (test k) [ true ↦ g (value k) next | false ↦ refused_at 9 at ])
+    ≡ and_then (and_then a (λ k next. elim (test k) [ true ↦ done (value k) next | false ↦ refused_at 9 at ])) g
+bounded {B} (done k next) test value at g = go (test k)
+  where
+    go : (t : Bool) → elim t [ true ↦ g (value k) next | false ↦ refused_at 9 at ] ≡ and_then (elim t [ true ↦ done (value k) next | false ↦ refused_at 9 at ]) g
+    go true = refl
+    go false = refl
+bounded ended test value at g = refl
+bounded (refused n) test value at g = refl
+bounded (refused_at n o) test value at g = refl
+
+abbrev pub on_place : List ℕ → ℕ → List ℕ → ℕ → ℕ → Answer (List ℕ)
+on_place s n entries place next = entries_at s n (place + 1) next (set entries place 1)
+
+abbrev pub on_size : List ℕ → ℕ → ℕ → ℕ → Answer (List ℕ)
+on_size s size n next = entries_at s n 0 next (replicate size 0)
+
+module _ (s : List ℕ) where
+  pub entries-placed : (n from at : ℕ) (entries : List ℕ) → entries_at s (suc n) from at entries ≡ and_then (place_at s (length entries) from at) (on_place s n entries)
+  unfolding place_at
+  entries-placed n from at entries =
+      entries-steps s n from at entries
+      ∙ bounded (number_at s at) (λ k. ltb (from + k) (length entries)) (λ k. from + k) at (on_place s n entries)
+
+  pub list-sized : (size at : ℕ) → list_at s size at ≡ and_then (count_at s size at) (on_size s size)
+  unfolding count_at
+  list-sized size at = list_steps s size at ∙ bounded (number_at s at) (λ n. leb n size) (λ n. n) at (on_size s size)
+
+  -- a place that is found is one
+  pub place-inside : (size from at place next : ℕ) → place_at s size from at ≡ done place next → (from ≤ place) × (place < size)
+  unfolding place_at
+  place-inside size from at place next e =
+      let g = went (number_at s at) (λ k next. elim (ltb (from + k) size) [ true ↦ done (from + k) next | false ↦ refused_at 9 at ]) place next e in
+      let t = took (ltb (from + g.value) size) (done (from + g.value) g.next) (refused_at 9 at) place next refl g.after in
+      let h : from + g.value < size = ltb-true _ _ t.0 in
+      let p : from + g.value ≡ place = cc in
+      omega (arith, h, p)
+
+-- what is refused leaves the buffer as it is
+pub refused-into : (f : Refusal) (whole : Answer (List ℕ)) (out : List ℕ) → whole ≡ turned f → buffered (turned f) out ≡ read_into whole out
+refused-into f whole out e =
+    sym (ap (λ (a : Answer (List ℕ)). read_into a out) e
+    ∙ ap (λ (a : Answer (Unit {0})). buffered a (value_or (turned f) itself out)) (turned-passed (List ℕ) f)
+    ∙ ap (λ (b : List ℕ). buffered (turned f) b) (value_not (turned f) itself out (turned-not (List ℕ) f)))

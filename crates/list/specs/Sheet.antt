@@ -1,10 +1,9 @@
 -- A sheet list in a stream: the count of set entries, then for each the entries skipped since the one before. Assumes nothing.
-use Rattle.std.specs.Prelude.{ℕ, zero, suc, ◌+◌, Bool, true, false, List, [], ◌∷◌, ◌++◌, ltb, leb, eqb, length, set, replicate}
-use Rattle.refusal.specs.Answer.{Answer, done, refused_at, turned, and_then, without_value, value_or, itself}
+use Rattle.std.specs.Prelude.{ℕ, zero, suc, ◌+◌, Bool, true, false, List, [], ◌∷◌, ◌++◌, ltb, leb, eqb, length, set, replicate, Result}
+use Rattle.refusal.specs.Answer.{Answer, done, refused_at, to_offset, and_then, without_value, value_or, itself}
+use Rattle.refusal.specs.declared.Refusal.{Refusal}
 use Rattle.refusal.specs.Writing.{Buffered, buffered, writing}
 use Rattle.number.specs.Number.{written, number_at, in_slice}
-use Rattle.list.specs.declared.Listed.{Listed}
-use Rattle.list.specs.declared.Listed.TheVariants.{To, Refused}
 
 -- WRITING
 
@@ -40,14 +39,20 @@ unfolding entries_at
 list_at s size at =
     and_then (number_at s at) (λ n next. elim (leb n size) [ true ↦ entries_at s n 0 next (replicate size 0) | false ↦ refused_at 9 at ])
 
+-- its two steps alone: the count, and the place of a set entry
+unfoldable pub count_at : List ℕ → ℕ → ℕ → Answer ℕ
+count_at s size at = and_then (number_at s at) (λ n next. elim (leb n size) [ true ↦ done n next | false ↦ refused_at 9 at ])
+
+unfoldable pub place_at : List ℕ → ℕ → ℕ → ℕ → Answer ℕ
+place_at s size from at = and_then (number_at s at) (λ k next. elim (ltb (from + k) size) [ true ↦ done (from + k) next | false ↦ refused_at 9 at ])
+
 -- THE CALLS
 
-abbrev pub list_answer : Listed → Answer (Unit {0})
-list_answer (To next) = done tt next
-list_answer (Refused f) = turned f
+abbrev pub list_answer : Result ℕ Refusal → Answer (Unit {0})
+list_answer = to_offset
 
 -- a list's answer with its buffer
-abbrev pub list_buffered : Listed → List ℕ → Buffered
+abbrev pub list_buffered : Result ℕ Refusal → List ℕ → Buffered
 list_buffered r buffer = buffered (list_answer r) buffer
 
 -- a buffer takes what is done, and stays as it was where nothing is

@@ -16,6 +16,9 @@ each P p q f = go (code_of f)
 pub turned_as : {A B : Type 0} (f : Refusal) (g : A → ℕ → Answer B) → and_then (turned f) g ≡ turned f
 turned_as {A} {B} f g = each (λ (k : Code). and_then (by_code {A = A} k) g ≡ by_code {A = B} k) (λ n. refl) (λ n at. refl) f
 
+pub stays-turned : {A B : Type 0} {a : Answer A} (f : Refusal) (g : A → ℕ → Answer B) → a ≡ turned f → and_then a g ≡ turned f
+stays-turned f g e = ap (λ (x : Answer _). and_then x g) e ∙ turned_as f g
+
 pub turned-passed : (A : Type 0) (f : Refusal) → without_value (turned {A = A} f) ≡ turned f
 turned-passed A f = each (λ (k : Code). without_value (by_code {A = A} k) ≡ by_code k) (λ n. refl) (λ n at. refl) f
 

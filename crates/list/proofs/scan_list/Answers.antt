@@ -1,90 +1,70 @@
 -- `list::scan_list` meets its contract: the entries that are left end as the whole list does. Assumes nothing.
-use mathlib.Core.Path.{◌≡◌, sym, ◌∙◌, ap}
-use mathlib.Core.Bool.{false}
-use mathlib.Core.List.{List}
-use Prim.Native.Nat.{ℕ, ◌≤◌, ◌<◌, ◌-◌, ◌+◌}
-use native.Mathlib.Omega.{arith}
-use lib.ListN.{set, replicate, length-set, length-replicate}
-use Rattle.refusal.specs.Answer.{Answer, done, refused_at, without_value, is_done}
-use Rattle.refusal.specs.Laws.{turned-not}
+use Rattle.std.proofs.Common.{rules, ◌≡◌, sym, ◌∙◌, ap, ℕ, suc, ◌-◌, ◌+◌, List, set, replicate, length-set, arith, Err}
+use Rattle.std.proofs.lemmas.List.{length-replicate}
+use Rattle.refusal.specs.Answer.{Answer, done, turned, and_then, without_value}
+use Rattle.refusal.specs.Laws.{stays-turned, turned-passed}
+use Rattle.refusal.specs.Done.{goes_on_lem}
 use Rattle.refusal.specs.declared.Refusal.{Refusal}
-use Rattle.number.specs.Number.{number_at, number_answer}
-use Rattle.number.specs.declared.Read.{Read}
-use Rattle.number.specs.declared.Read.TheVariants.{Refused}
-use Rattle.list.specs.Laws.{list-turned, list_counted, list-past, entries-turned, entries-more, entries-past, entries_none, entries-alike}
+use Rattle.list.specs.Sheet.{place_at}
+use Rattle.list.specs.Laws.{list-sized, entries-placed, place-inside, entries_none, entries-alike, on_size, on_place}
 use Rattle.list.proofs.scan_list.Invariants.{ends}
 use Rattle.list.proofs.scan_list.Goals as goal
 
--- a number that was not read
-not-read : (src : List ℕ) (at : ℕ) (r : Read) (f : Refusal) → number_answer r ≡ number_at src at → r ≡ Refused f → is_done (number_at src at) ≡ false
-not-read src at r f e k = ap (λ (a : Answer ℕ). is_done a) (sym e ∙ ap number_answer k) ∙ turned-not ℕ f
+module _ (src : List ℕ) (size left from at : ℕ) where
+  placed : ends src size (suc left) from at ≡ without_value (and_then (place_at src size from at) (on_place src left (replicate size 0)))
+  placed =
+      ap (λ (a : Answer (List ℕ)). without_value a) (entries-placed src left from at (replicate size 0))
+      ∙ ap (λ (n : ℕ). without_value (and_then (place_at src n from at) (on_place src left (replicate size 0)))) (length-replicate {A = ℕ} size 0)
 
-module _ (src : List ℕ) (size left from next : ℕ) (l : 0 < left) (k behind : ℕ) (d : number_at src next ≡ done k behind) where
-  more : from + k < size → ends src size (left - 1) (from + k + 1) behind ≡ ends src size left from next
-  more h =
+  step : (p next : ℕ) → place_at src size from at ≡ done p next → ends src size left (p + 1) next ≡ ends src size (suc left) from at
+  step p next e =
       let z : List ℕ = replicate size 0 in
-      sym (ap (λ (a : Answer (List ℕ)). without_value a) (entries-more src left from next z l k behind d (omega (arith, length-replicate {A = ℕ} size 0)))
-      ∙ entries-alike src (left - 1) (from + k + 1) behind (set z (from + k) 1) z (length-set z (from + k) 1))
+      sym (placed ∙ ap (λ (a : Answer (List ℕ)). without_value a) (goes_on_lem (on_place src left (replicate size 0)) e)
+      ∙ entries-alike src left (p + 1) next (set z p 1) z (length-set z p 1))
 
-  past : size ≤ from + k → refused_at 9 next ≡ ends src size left from next
-  past h = sym (ap (λ (a : Answer (List ℕ)). without_value a) (entries-past src left from next (replicate size 0) l k behind d (omega (arith, length-replicate {A = ℕ} size 0))))
+  stop : (f : Refusal) → turned f ≡ place_at src size from at → turned f ≡ ends src size (suc left) from at
+  stop f e =
+      sym (placed ∙ ap (λ (a : Answer (List ℕ)). without_value a) (stays-turned f (on_place src left (replicate size 0)) (sym e)) ∙ turned-passed (List ℕ) f)
 
-pub returns-in_default : goal.returns-in_default
-returns-in_default c =
+pub returns-in_err-count : goal.returns-in_err-count
+returns-in_err-count c =
     let a = c.args in
-    let r = c.read_number-count in
-    c.as_listed.ensures
-    ∙ ap (λ (x : Answer ℕ). without_value x) r.ensures
-    ∙ sym (list-turned a.src.now a.size a.at (not-read a.src.now a.at r.result c.in_default.field-0 r.ensures c.in_default.is))
+    let e : c.from_residual.result ≡ Err c.in_err-count.field-0.0 = search rules in
+    let f = c.in_err-count.field-0.0 in
+    rw e (sym (ap (λ (a : Answer (List ℕ)). without_value a) (list-sized a.src.now a.size a.at ∙ stays-turned f (on_size a.src.now a.size) (sym c.in_err-count.ensures)) ∙ turned-passed (List ℕ) f))
 
-pub returns-then-size-left : goal.returns-then-size-left
-returns-then-size-left c =
+pub loop-init : goal.loop-init
+loop-init c =
+    let a = c.args in (
+      λ left e. let all : left ≡ c.in_ok-count.count = omega (arith, e) in
+          rw all (sym (ap (λ (a : Answer (List ℕ)). without_value a) (list-sized a.src.now a.size a.at ∙ goes_on_lem (on_size a.src.now a.size) (sym c.in_ok-count.ensures)))),
+      omega arith,
+    )
+
+pub returns-in_err-place : goal.returns-in_err-place
+returns-in_err-place c =
     let a = c.args in
-    let r = c.read_number-count in
-    let d = sym r.ensures ∙ ap number_answer c.in-Number.is in
-    sym (ap (λ (x : Answer (List ℕ)). without_value x) (list-past a.src.now a.size a.at _ _ d c.if-size-left.true))
+    let l = c.loop in
+    let e : c.from_residual-in_err-place.result ≡ Err c.in_err-place.field-0.0 = search rules in
+    let left = c.in_ok-count.count - l.counter - 1 in
+    rw e (stop a.src.now a.size left l.from l.next c.in_err-place.field-0.0 c.in_err-place.ensures ∙ l.invariant.0 (suc left) (omega (arith, c.loop-test.true)))
 
-pub loop-left-init : goal.loop-left-init
-loop-left-init c =
+pub overflow_add-from : goal.overflow_add-from
+overflow_add-from c =
+    let i = place-inside c.args.src.now c.args.size c.loop.from c.loop.next c.in_ok-place.place c.in_ok-place.behind (sym c.in_ok-place.ensures) in
+    omega (arith, i, c.ranges.size.fits)
+
+pub loop-preserved : goal.loop-preserved
+loop-preserved c =
     let a = c.args in
-    let r = c.read_number-count in
-    let d = sym r.ensures ∙ ap number_answer c.in-Number.is in
-    (sym (ap (λ (x : Answer (List ℕ)). without_value x) (list_counted a.src.now a.size a.at _ _ d c.if-size-left.false)), omega arith)
-
-pub returns-in_default-skip : goal.returns-in_default-skip
-returns-in_default-skip c =
-    let l = c.loop-left in
-    let a = c.args in
-    let r = c.read_number-skip in
-    c.as_listed-in_default-skip.ensures
-    ∙ ap (λ (x : Answer ℕ). without_value x) r.ensures
-    ∙ sym (entries-turned a.src.now l.left l.from l.next (replicate a.size 0) (omega (arith, c.loop-left-test.true)) (not-read a.src.now l.next r.result c.in_default-skip.field-0 r.ensures c.in_default-skip.is))
-    ∙ l.invariant.0
-
-pub returns-then-size-from : goal.returns-then-size-from
-returns-then-size-from c =
-    let l = c.loop-left in
-    let a = c.args in
-    let r = c.read_number-skip in
-    let d = sym r.ensures ∙ ap number_answer c.in-Number-skip.is in
-    past a.src.now a.size l.left l.from l.next (omega (arith, c.loop-left-test.true)) _ _ d (omega (arith, c.if-size-from.true, l.invariant.1)) ∙ l.invariant.0
-
-pub loop-left-smaller : goal.loop-left-smaller
-loop-left-smaller c = omega arith
-
-pub loop-left-preserved : goal.loop-left-preserved
-loop-left-preserved c =
-    let l = c.loop-left in
-    let a = c.args in
-    let r = c.read_number-skip in
-    let d = sym r.ensures ∙ ap number_answer c.in-Number-skip.is in (
-      more a.src.now a.size l.left l.from l.next (omega (arith, c.loop-left-test.true)) _ _ d (omega (arith, c.if-size-from.false, l.invariant.1)) ∙ l.invariant.0,
-      omega (arith, c.if-size-from.false, l.invariant.1),
+    let l = c.loop in
+    let i = place-inside a.src.now a.size l.from l.next c.in_ok-place.place c.in_ok-place.behind (sym c.in_ok-place.ensures) in (
+      λ left e. step a.src.now a.size left l.from l.next c.in_ok-place.place c.in_ok-place.behind (sym c.in_ok-place.ensures) ∙ l.invariant.0 (suc left) (omega (arith, e)),
+      omega (arith, i),
     )
 
 pub returns : goal.returns
 returns c =
-    let l = c.loop-left in
+    let l = c.loop in
     let a = c.args in
-    let none : l.left ≡ 0 = omega (arith, c.loop-left-test.false) in
-    sym (sym l.invariant.0 ∙ ap (λ (n : ℕ). ends a.src.now a.size n l.from l.next) none ∙ ap (λ (x : Answer (List ℕ)). without_value x) (entries_none a.src.now l.from l.next (replicate a.size 0)))
+    sym (sym (l.invariant.0 0 (omega (arith, c.loop-test.false, l.auto))) ∙ ap (λ (x : Answer (List ℕ)). without_value x) (entries_none a.src.now l.from l.next (replicate a.size 0)))
