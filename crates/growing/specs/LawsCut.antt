@@ -1,7 +1,7 @@
 -- Laws of bottom nodes that are cut: what stays of one, and strips that are cut one after the other. Assumes nothing.
 use Rattle.std.specs.Prelude.{ℕ, zero, suc, ◌+◌, ◌/◌, ◌%◌, ◌<◌, ◌≡◌, refl, Bool, false, List, [], ◌∷◌, eqb, leb, get_or, set}
-use Rattle.std.proofs.Common.{arith, ap, sym, ◌∙◌, leb-false}
-use Rattle.shape.specs.Choice.{if, if-false}
+use Rattle.std.proofs.Common.{arith, ap, sym, ◌∙◌, leb-false, eq-eqb, ne_eqb}
+use Rattle.shape.specs.Choice.{if, if-true, if-false}
 use Rattle.flat.specs.Codes.{active_of, defect_of, unrooted_of, pointer_of}
 use Rattle.flat.specs.Stored.{stored, place-next, stored-behind}
 use Rattle.growing.specs.Grown.{cut_node, cut_mark}
@@ -20,6 +20,12 @@ module _ (v : ℕ) where
   pub cut-pointer : pointer_of (v % 8) ≡ 0
   cut-pointer = omega arith
 
+-- what is stored as it was
+set_back : (l : List ℕ) (i : ℕ) → set l i (get_or l i 0) ≡ l
+set_back [] i = refl
+set_back (x ∷ l) zero = refl
+set_back (x ∷ l) (suc i) = ap (λ (r : List ℕ). x ∷ r) (set_back l i)
+
 -- A STRIP: a turn over both arrays
 module _ (table nodes marks : List ℕ) (b i at : ℕ) (now : List ℕ) where
   abbrev falls : ℕ → Bool
@@ -32,21 +38,30 @@ module _ (table nodes marks : List ℕ) (b i at : ℕ) (now : List ℕ) where
   mark j = cut_mark falls (get_or nodes (b + j) 0) (get_or marks (b + j) 0)
 
   module _ (p : now ≡ stored b node i nodes) (told : at ≡ 128 + get_or now (b + i) 0 / 8) where
-    pub cut-node-next : (v : ℕ) → v ≡ if (eqb (get_or table at 0) 1) (get_or now (b + i) 0 % 8) (get_or now (b + i) 0) → set now (b + i) v ≡ stored b node (i + 1) nodes
+    cut-node-next : (v : ℕ) → v ≡ if (eqb (get_or table at 0) 1) (get_or now (b + i) 0 % 8) (get_or now (b + i) 0) → set now (b + i) v ≡ stored b node (i + 1) nodes
     cut-node-next v q = place-next b (λ j w. cut_node falls w) 0 nodes i now v p (q ∙ ap (λ (y : ℕ). if (eqb (get_or table y 0) 1) (get_or now (b + i) 0 % 8) (get_or now (b + i) 0)) told)
 
-    pub cut-mark-next : (old : List ℕ) (v : ℕ) → old ≡ stored b mark i marks → v ≡ if (eqb (get_or table at 0) 1) 65535 (get_or old (b + i) 0) → set old (b + i) v ≡ stored b mark (i + 1) marks
+    cut-mark-next : (old : List ℕ) (v : ℕ) → old ≡ stored b mark i marks → v ≡ if (eqb (get_or table at 0) 1) 65535 (get_or old (b + i) 0) → set old (b + i) v ≡ stored b mark (i + 1) marks
     cut-mark-next old v m q =
         let e : at ≡ 128 + get_or nodes (b + i) 0 / 8 = told ∙ ap (λ (l : List ℕ). 128 + get_or l (b + i) 0 / 8) p ∙ ap (λ (w : ℕ). 128 + w / 8) (stored-behind b node i nodes 0 (b + i) (omega arith)) in
         place-next b (λ j w. cut_mark falls (get_or nodes (b + j) 0) w) 0 marks i old v m (q ∙ ap (λ (y : ℕ). if (eqb (get_or table y 0) 1) 65535 (get_or old (b + i) 0)) e)
 
--- STRIP AFTER STRIP
+    -- the node's pointer falls
+    pub cut-next : (old : List ℕ) → old ≡ stored b mark i marks → get_or table at 0 ≡ 1
+        → (set now (b + i) (get_or now (b + i) 0 % 8) ≡ stored b node (i + 1) nodes) × (set old (b + i) 65535 ≡ stored b mark (i + 1) marks)
+    cut-next old m t =
+        let e = eq-eqb _ _ t in
+        (cut-node-next _ (sym (if-true (eqb (get_or table at 0) 1) _ _ e)), cut-mark-next old _ m (sym (if-true (eqb (get_or table at 0) 1) _ _ e)))
 
--- what is stored as it was
-set_back : (l : List ℕ) (i : ℕ) → set l i (get_or l i 0) ≡ l
-set_back [] i = refl
-set_back (x ∷ l) zero = refl
-set_back (x ∷ l) (suc i) = ap (λ (r : List ℕ). x ∷ r) (set_back l i)
+    -- it does not
+    pub cut-past : (old : List ℕ) → old ≡ stored b mark i marks → (get_or table at 0 ≡ 1 → ⊥) → (now ≡ stored b node (i + 1) nodes) × (old ≡ stored b mark (i + 1) marks)
+    cut-past old m t =
+        let e = ne_eqb _ _ t in (
+          sym (set_back now (b + i)) ∙ cut-node-next _ (sym (if-false (eqb (get_or table at 0) 1) _ _ e)),
+          sym (set_back old (b + i)) ∙ cut-mark-next old _ m (sym (if-false (eqb (get_or table at 0) 1) _ _ e)),
+        )
+
+-- STRIP AFTER STRIP
 
 stored_same : (b : ℕ) (f : ℕ → ℕ) (n : ℕ) (l : List ℕ) → ((j : ℕ) → j < n → f j ≡ get_or l (b + j) 0) → stored b f n l ≡ l
 unfolding stored

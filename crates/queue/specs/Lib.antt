@@ -4,3 +4,4 @@ pub mod LawsTrues
 pub mod LawsNamed
 pub mod LawsPush
 pub mod LawsEmpty
+pub mod LawsParts

@@ -1,42 +1,53 @@
--- `growing::cut` meets its contract. Assumes nothing.
-use Prim.Native.Nat.{ℕ, ◌<◌, ◌-◌, ◌+◌}
-use native.Mathlib.Omega.{arith}
-use mathlib.Core.Path.{◌≡◌, sym, ◌∙◌}
-use mathlib.Core.Bool.{Bool, false}
+use Rattle.std.specs.Prelude.{ℕ, ◌+◌, ◌-◌, ◌<◌, ◌≡◌, Bool, false, eqb, leb, get_or, min}
+use Rattle.std.proofs.Common.{arith, sym, ◌∙◌}
 use borrow.Author.Tests.{not-true}
-use lib.Dec.{eqb, leb}
-use lib.ListN.{get_or}
-use Rattle.flat.specs.Stored.{stored-none, stored-done}
-use Rattle.growing.specs.LawsListed.{any-each}
+use Rattle.flat.specs.Stored.{stored, stored-none}
+use Rattle.queue.specs.LawsParts.{none-passes}
+use Rattle.growing.specs.Grown.{cut_node, cut_mark}
 use Rattle.growing.specs.LawsCut.{strips-node, strips-mark, centred-node, centred-mark}
 use Rattle.growing.proofs.cut.Goals as goal
+use Rattle.growing.proofs.cut.Goals.{Joined-not-is_centred, then-not-is_centred, else-not-is_centred}
 
-pub strips-init : goal.strips-init
-strips-init c = (omega arith, stored-none _ _ _, stored-none _ _ _)
+-- a strip of m nodes is passed
+strip_passed : (c : Joined-not-is_centred) (m : ℕ) → min 16 (c.args.z.sheet - c.loop-i.i) ≡ m
+    → (c.if-not-is_centred.nodes ≡ stored (512 + c.args.z.nodes - c.args.z.sheet) (λ j. cut_node (λ p. eqb (get_or c.args.table.now (128 + p) 0) 1) (get_or c.args.nodes.now (512 + c.args.z.nodes - c.args.z.sheet + j) 0)) (c.loop-i.i + m) c.args.nodes.now)
+    × (c.if-not-is_centred.marks ≡ stored (512 + c.args.z.nodes - c.args.z.sheet) (λ j. cut_mark (λ p. eqb (get_or c.args.table.now (128 + p) 0) 1) (get_or c.args.nodes.now (512 + c.args.z.nodes - c.args.z.sheet + j) 0) (get_or c.args.marks.now (512 + c.args.z.nodes - c.args.z.sheet + j) 0)) (c.loop-i.i + m) c.args.marks.now)
+strip_passed c m p =
+    let a = c.args in
+    let l = c.loop-i in
+    let b = 512 + a.z.nodes - a.z.sheet in
+    let f : ℕ → Bool = λ k. eqb (get_or a.table.now (128 + k) 0) 1 in
+    let e : min l.i a.z.sheet ≡ l.i = omega arith in
+    let nodes = rw e at l.invariant.nodes in
+    let marks = rw e at l.invariant.marks in
+    elim c.if-not-is_centred.branch [
+      | then-not-is_centred w ↦
+          let g : w.min.result ≡ m = w.min.ensures ∙ p in
+          rw (w.nodes-is, w.marks-is, ← g) (
+            strips-node f a.nodes.now a.marks.now b l.i w.min.result l.nodes l.marks _ l.marks nodes w.cut_strip.ensures.nodes_after,
+            strips-mark f a.nodes.now a.marks.now b l.i w.min.result l.nodes l.marks l.nodes _ nodes marks w.cut_strip.ensures.marks_after,
+          )
+      | else-not-is_centred w ↦
+          let rest : (j : ℕ) → j < m → leb 8 (get_or l.nodes (b + l.i + j) 0) ≡ false
+          = λ j h. none-passes (leb 8) (b + l.i) 16 l.nodes (omega arith) (not-true _ (sym c.is_centred.ensures ∙ w.if-not-is_centred.false)) j (omega arith) in
+          rw (w.nodes-is, w.marks-is) (
+            strips-node f a.nodes.now a.marks.now b l.i m l.nodes l.marks l.nodes l.marks nodes (centred-node f c.requires.table_value (b + l.i) m l.nodes l.marks rest),
+            strips-mark f a.nodes.now a.marks.now b l.i m l.nodes l.marks l.nodes l.marks nodes marks (centred-mark f c.requires.table_value (b + l.i) m l.nodes l.marks rest),
+          )
+    ]
 
-pub strips-preserved-then-is_centred : goal.strips-preserved-then-is_centred
-strips-preserved-then-is_centred c =
-    let l = c.strips in
-    let b = 512 + c.args.z.nodes - c.args.z.sheet in
-    let m = c.part_of-m.result in
-    let f : ℕ → Bool = λ p. eqb (get_or c.args.table.now (128 + p) 0) 1 in
-    let none = not-true _ (sym c.is_centred.ensures ∙ c.if-is_centred.true) in
-    let rest : (j : ℕ) → j < m → leb 8 (get_or l.nodes (b + l.i + j) 0) ≡ false = λ j h. any-each (λ j. leb 8 (get_or l.nodes (b + l.i + j) 0)) 16 j none (omega arith) in (
-      omega arith,
-      strips-node f c.args.nodes.now c.args.marks.now b l.i m l.nodes l.marks l.nodes l.marks l.invariant.1 (centred-node f c.requires.table_value (b + l.i) m l.nodes l.marks rest),
-      strips-mark f c.args.nodes.now c.args.marks.now b l.i m l.nodes l.marks l.nodes l.marks l.invariant.1 l.invariant.2 (centred-mark f c.requires.table_value (b + l.i) m l.nodes l.marks rest),
-    )
+pub loop-i-init : goal.loop-i-init
+loop-i-init c = let e : min 0 c.args.z.sheet ≡ 0 = omega arith in rw e (record { nodes = stored-none _ _ _; marks = stored-none _ _ _ })
 
-pub strips-preserved : goal.strips-preserved
-strips-preserved c =
-    let l = c.strips in
-    let b = 512 + c.args.z.nodes - c.args.z.sheet in
-    let m = c.part_of-m.result in
-    let f : ℕ → Bool = λ p. eqb (get_or c.args.table.now (128 + p) 0) 1 in (
-      omega arith,
-      strips-node f c.args.nodes.now c.args.marks.now b l.i m l.nodes l.marks _ l.marks l.invariant.1 c.cut_strip.ensures.nodes_after,
-      strips-mark f c.args.nodes.now c.args.marks.now b l.i m l.nodes l.marks l.nodes _ l.invariant.1 l.invariant.2 c.cut_strip.ensures.marks_after,
-    )
+pub loop-i-preserved : goal.loop-i-preserved
+loop-i-preserved c =
+    let r = strip_passed (goal.at.loop-i-preserved c).Joined-not-is_centred 16 (omega arith) in
+    let e : min (c.loop-i.i + 16) c.args.z.sheet ≡ c.loop-i.i + 16 = omega arith in
+    rw e (record { nodes = r.0; marks = r.1 })
 
-pub returns : goal.returns
-returns c = let l = c.strips in record { nodes_after = stored-done _ _ _ _ _ _ l.invariant.1 l.invariant.0 c.strips-test.false; marks_after = stored-done _ _ _ _ _ _ l.invariant.2 l.invariant.0 c.strips-test.false }
+pub returns-after-not-is_centred : goal.returns-after-not-is_centred
+returns-after-not-is_centred c =
+    let m = c.args.z.sheet - c.loop-i.i in
+    let r = strip_passed (goal.at.returns-after-not-is_centred c).Joined-not-is_centred m (omega arith) in
+    let e : c.loop-i.i + m ≡ c.args.z.sheet = omega arith in
+    record { nodes_after = rw e at r.0; marks_after = rw e at r.1 }

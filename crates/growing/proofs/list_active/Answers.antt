@@ -1,27 +1,34 @@
--- `growing::list_active` meets its contract. Assumes nothing.
-use mathlib.Core.Path.{refl, sym, ◌∙◌}
-use native.Mathlib.Omega.{arith}
+use Rattle.std.specs.Prelude.{ℕ, ◌+◌, ◌-◌, ◌≡◌, min}
+use Rattle.std.proofs.Common.{arith, sym, ◌∙◌}
 use borrow.Author.Tests.{not-true}
-use Rattle.growing.specs.LawsListed.{actives-none, actives-here, actives-on, actives-all, part-idle}
+use Rattle.flat.specs.Codes.{active_of}
+use Rattle.queue.specs.LawsParts.{none-passes}
+use Rattle.growing.specs.Grown.{Actives}
+use Rattle.growing.specs.LawsListed.{actives-on, actives-idle}
 use Rattle.growing.proofs.list_active.Goals as goal
+use Rattle.growing.proofs.list_active.Goals.{Joined-not-is_idle, then-not-is_idle, else-not-is_idle}
 
-pub parts-init : goal.parts-init
-parts-init c = (omega arith, actives-none _ _)
+-- a part of m nodes is passed
+part_passed : (c : Joined-not-is_idle) (m : ℕ) → min 64 (c.args.z.nodes - c.loop-first.first) ≡ m → Actives (c.loop-first.first + m) c.args.nodes.now c.if-not-is_idle.q c.args.lists.now c.if-not-is_idle.lists
+part_passed c m p =
+    let l = c.loop-first in
+    let e : min l.first c.args.z.nodes ≡ l.first = omega arith in
+    let A = rw e at l.invariant in
+    elim c.if-not-is_idle.branch [
+      | then-not-is_idle w ↦
+          let f : w.min.result ≡ m = w.min.ensures ∙ p in
+          rw (w.q-is, w.lists-is) (rw f at (actives-on _ _ _ _ _ A _ _ _ w.list_part-q.ensures))
+      | else-not-is_idle w ↦
+          rw (w.q-is, w.lists-is) (actives-idle l.first c.args.nodes.now l.q c.args.lists.now l.lists A m (λ i h. none-passes active_of (512 + l.first) 64 c.args.nodes.now (omega arith) (not-true _ (sym c.is_idle.ensures ∙ w.if-not-is_idle.false)) i (omega arith)))
+    ]
 
-pub parts-preserved-then-is_idle : goal.parts-preserved-then-is_idle
-parts-preserved-then-is_idle c =
-    let l = c.parts in
-    (omega arith, part-idle l.i c.part_of-m.result _ c.args.nodes.now l.q c.args.lists.now l.lists l.invariant.1 (omega arith) refl (not-true _ (sym c.is_idle.ensures ∙ c.if-is_idle.true)))
+pub loop-first-preserved : goal.loop-first-preserved
+loop-first-preserved c =
+    let e : min (c.loop-first.first + 64) c.args.z.nodes ≡ c.loop-first.first + 64 = omega arith in
+    rw e (part_passed (goal.at.loop-first-preserved c).Joined-not-is_idle 64 (omega arith))
 
-pub list_part-q-requires : goal.list_part-q-requires
-list_part-q-requires c =
-    let l = c.parts in
-    let z = c.requires.0 in record { n_bound = (omega arith, l.invariant.1.long ∙ c.requires.1); actives = actives-here _ _ _ _ _ l.invariant.1 }
-
-pub parts-preserved : goal.parts-preserved
-parts-preserved c =
-    let l = c.parts in
-    (omega arith, actives-on _ _ _ _ _ l.invariant.1 _ _ _ c.list_part-q.ensures)
-
-pub returns : goal.returns
-returns c = let l = c.parts in actives-all _ _ _ _ _ l.invariant.1 _ l.invariant.0 c.parts-test.false
+pub returns-after-not-is_idle : goal.returns-after-not-is_idle
+returns-after-not-is_idle c =
+    let m = c.args.z.nodes - c.loop-first.first in
+    let e : c.loop-first.first + m ≡ c.args.z.nodes = omega arith in
+    rw e at (part_passed (goal.at.returns-after-not-is_idle c).Joined-not-is_idle m (omega arith))

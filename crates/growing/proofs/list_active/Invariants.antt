@@ -1,10 +1,6 @@
--- `growing::list_active` meets its contract. Assumes nothing.
-use Prim.Native.Nat.{◌≤◌, ◌-◌}
+use Rattle.std.proofs.Common.{min}
 use Rattle.growing.specs.Grown.{Actives}
 use Rattle.growing.proofs.list_active.Given as goal
 
-abbrev pub invariant-parts : goal.invariant-parts
-invariant-parts l = (l.i ≤ l.n) × Actives l.i l.nodes l.q l.initial.lists l.lists
-
-abbrev pub decreases-parts : goal.decreases-parts
-decreases-parts l = l.n - l.i
+abbrev pub invariant-loop-first : goal.invariant-loop-first
+invariant-loop-first l = Actives (min l.first l.z.nodes) l.nodes l.q l.initial.lists l.lists
