@@ -1,24 +1,12 @@
 // Merging steps on the machine's arrays, up to rest or through a budget.
 #![tactic(auto)]
 
-ghost use Rattle.std.specs.Prelude.{◌≡◌, length};
-ghost use Rattle.flat.specs.Entries.{state_of, Long};
-ghost use Rattle.flat.specs.Plan.{plan_of, Safe};
 ghost use Rattle.flat.specs.Step.{list_at};
+ghost use Rattle.flat.specs.Structs.{plan_in, state_in};
 ghost use Rattle.queue.specs.Queue.{Queue};
-ghost use Rattle.merge_step.specs.Pass.{AllLong};
 ghost use Rattle.run_steps.specs.Going.{Shown, Stopped, Finished};
 
-use flat::{LISTS, PLANE, PLANES, Sizes, TABLE};
-
-// Where a run stopped: at rest or not, the steps made, and the work list that it stands at.
-#[derive(Clone, Copy)]
-pub struct Stop {
-    rest: bool,
-    count: u32,
-    from: usize,
-    listed: usize,
-}
+use flat::{Arrays, Layout, PLANE, Work};
 
 // How a run ended: at rest or not, and the steps made.
 #[derive(Clone, Copy)]
@@ -27,50 +15,54 @@ pub struct Reached {
     pub count: u32,
 }
 
+// How a run ended, and the work list that it stands at.
+#[derive(Clone, Copy)]
+struct Stop {
+    reached: Reached,
+    from: usize,
+    listed: usize,
+}
+
 // Steps over work lists, the first of them at 0. Where pointers do not ride on open edges, every step's list is the first one.
 fn steps(
-    z: Sizes,
+    layout: &Layout,
     rides: bool,
     budget: u32,
     listed: usize,
-    nodes: &mut [u8; PLANE],
-    marks: &mut [u16; PLANE],
-    edges: &mut [u8; PLANES],
-    table: &[u16; TABLE],
-    lists: &mut [u16; LISTS],
-    queued: &mut [bool; PLANE],
-    words: &mut [u32; PLANE],
+    arrays: &mut Arrays,
+    work: &mut Work,
 ) -> Stop
-    requires safe { Safe z table.now }
-    requires all_long { AllLong nodes.old marks.old edges.old words.old }
-    requires queue { Queue 0 listed lists.old queued.old }
-    requires shown { Shown (plan_of z table.now) z.nodes (state_of nodes.old marks.old edges.old) rides listed (list_at lists.old 0) }
-    ensures { Stopped (plan_of z table.now) z.nodes budget (state_of nodes.old marks.old edges.old) rides listed (list_at lists.old 0) result.rest result.count result.from result.listed nodes.new marks.new edges.new words.new lists.new queued.new }
+    requires queue { Queue 0 listed work.old.lists work.old.queued }
+    requires shown { Shown (plan_in layout.now) layout.now.sizes.nodes (state_in arrays.old) rides listed (list_at work.old.lists 0) }
+    ensures { Stopped (plan_in layout.now) layout.now.sizes.nodes budget (state_in arrays.old) rides listed (list_at work.old.lists 0) result.reached.rest result.reached.count result.from result.listed arrays.new.nodes arrays.new.marks arrays.new.edges work.new.words work.new.lists work.new.queued }
 {
-    let mut made: u32 = 0;
-    let mut from: usize = 0;
+    let mut from = 0;
     let mut count = listed;
-    'each: while made < budget {
-        let busy = merge_step::pass(z, from, count, nodes, marks, edges, table, lists, words);
-        made += 1;
+    for made in 0..budget {
+        let busy = merge_step::pass(layout, from, count, arrays, &work.lists, &mut work.words);
         if !busy {
-            return Stop {
+            let reached = Reached {
                 rest: true,
-                count: made,
+                count: made + 1,
+            };
+            return Stop {
+                reached,
                 from,
                 listed: count,
             };
         }
-        if !rides {
-            continue 'each;
+        if rides {
+            let to = PLANE - from;
+            count = next_list::next_list(layout, from, to, count, &arrays.edges, work);
+            from = to;
         }
-        let to = PLANE - from;
-        count = next_list::next_list(z, from, to, count, edges, table, lists, queued, words);
-        from = to;
     }
-    Stop {
+    let reached = Reached {
         rest: false,
-        count: made,
+        count: budget,
+    };
+    Stop {
+        reached,
         from,
         listed: count,
     }
@@ -78,30 +70,18 @@ fn steps(
 
 // Merging steps over work lists, the first of them at 0; afterwards no node is queued.
 pub fn run(
-    z: Sizes,
+    layout: &Layout,
     rides: bool,
     budget: u32,
     listed: usize,
-    nodes: &mut [u8; PLANE],
-    marks: &mut [u16; PLANE],
-    edges: &mut [u8; PLANES],
-    table: &[u16; TABLE],
-    lists: &mut [u16; LISTS],
-    queued: &mut [bool; PLANE],
-    words: &mut [u32; PLANE],
+    arrays: &mut Arrays,
+    work: &mut Work,
 ) -> Reached
-    requires safe { Safe z table.now }
-    requires long { (Long nodes.old marks.old edges.old) × (length words.old ≡ 4608) }
-    requires queue { Queue 0 listed lists.old queued.old }
-    requires shown { Shown (plan_of z table.now) z.nodes (state_of nodes.old marks.old edges.old) rides listed (list_at lists.old 0) }
-    ensures { Finished (plan_of z table.now) z.nodes budget (state_of nodes.old marks.old edges.old) rides listed (list_at lists.old 0) result.rest result.count nodes.new marks.new edges.new words.new lists.new queued.new }
+    requires queue { Queue 0 listed work.old.lists work.old.queued }
+    requires shown { Shown (plan_in layout.now) layout.now.sizes.nodes (state_in arrays.old) rides listed (list_at work.old.lists 0) }
+    ensures { Finished (plan_in layout.now) layout.now.sizes.nodes budget (state_in arrays.old) rides listed (list_at work.old.lists 0) result.rest result.count arrays.new.nodes arrays.new.marks arrays.new.edges work.new.words work.new.lists work.new.queued }
 {
-    let stop = steps(
-        z, rides, budget, listed, nodes, marks, edges, table, lists, queued, words,
-    );
-    queue::unqueue(stop.from, stop.listed, lists, queued);
-    Reached {
-        rest: stop.rest,
-        count: stop.count,
-    }
+    let stop = steps(layout, rides, budget, listed, arrays, work);
+    queue::unqueue(stop.from, stop.listed, &work.lists, &mut work.queued);
+    stop.reached
 }
