@@ -10,7 +10,7 @@ use Rattle.refusal.specs.Laws.{undone}
 use Rattle.shape.specs.Choice.{if-true, if-false, whether}
 use Rattle.steps.specs.Offsets.{back_by, on_by}
 use Rattle.steps.specs.Proper.{Points, Reversed}
-use Rattle.steps.specs.Steps.{Table, step, namer}
+use Rattle.steps.specs.Steps.{Table, step}
 use Rattle.steps.specs.Suited.{Suited, namer-names}
 use Rattle.steps.specs.declared.Step.{Step}
 use Rattle.flat.specs.Entries.{cell, over_by}

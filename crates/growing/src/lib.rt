@@ -1,10 +1,10 @@
 // Grow on the flat machine's arrays: the edges of active nodes gain halves, and bottom nodes whose pointer falls are cut.
 #![tactic(auto)]
 
-ghost use Rattle.std.specs.Prelude.{◌≡◌, ◌||◌, fold, true, false, not, ◌+◌, ◌-◌, ◌≤◌, ◌<◌, length, get_or, eqb, leb};
+ghost use Rattle.std.specs.Prelude.{◌≡◌, ◌||◌, fold, true, false, not, ◌+◌, ◌-◌, ◌≤◌, ◌<◌, get_or, eqb, leb};
 ghost use Rattle.window.specs.Lists.{any, bit};
 ghost use Rattle.flat.specs.Codes.{active_of, growth_of};
-ghost use Rattle.flat.specs.Entries.{planes, within, over_by};
+ghost use Rattle.flat.specs.Entries.{within, over_by};
 ghost use Rattle.flat.specs.Plan.{plan_of};
 ghost use Rattle.flat.specs.Step.{active_at, Places};
 ghost use Rattle.flat.specs.Stored.{stored};
@@ -34,7 +34,7 @@ fn list_part(
     nodes: &[u8; PLANE],
     lists: &mut [u16; LISTS],
 ) -> usize
-    requires n_bound { (first + n ≤ 3600) × (length lists.old ≡ 13824) }
+    requires n_bound { first + n ≤ 3600 }
     requires actives { Actives first nodes.now count lists.old lists.old }
     ensures { Actives (first + n) nodes.now result lists.old lists.new }
 {
@@ -51,7 +51,7 @@ fn list_part(
 
 // The active nodes, in rising order; a part with none is passed at once. The last part may reach into the margin behind the nodes.
 pub fn list_active(z: Sizes, nodes: &[u8; PLANE], lists: &mut [u16; LISTS]) -> usize
-    requires { (z.nodes ≤ 3600) × (length lists.old ≡ 13824) }
+    requires { z.nodes ≤ 3600 }
     ensures { Actives z.nodes nodes.now result lists.old lists.new }
 {
     let mut q: usize = 0;
@@ -75,7 +75,6 @@ fn grow_edge(
     queued: &mut [bool; PLANE],
 ) -> usize
     requires k_lt_dirs { (k < layout.now.sizes.dirs) × (within layout.now.sizes.nodes x ≡ true) }
-    requires edges_len { length edges.old ≡ planes }
     requires queue { Queue 0 count lists.old queued.old }
     requires leads { Leads (plan_in layout.now) layout.now.sizes.nodes (λ e. growth_of (get_or edges.old e 0)) }
     ensures { Raised (plan_in layout.now) layout.now.sizes.nodes (λ e. bit (eqb (over_by x ((plan_in layout.now).slot k)) e)) edges.old edges.new count result lists.old lists.new queued.new }
@@ -105,7 +104,6 @@ fn grow_way(
     queued: &mut [bool; PLANE],
 ) -> usize
     requires k_lt_dirs { (k < layout.now.sizes.dirs) × (listed ≤ 3600) }
-    requires edges_len { length edges.old ≡ planes }
     requires queue { Queue 0 count lists.old queued.old }
     requires places { Places layout.now.sizes.nodes listed (active_at lists.old) }
     requires leads { Leads (plan_in layout.now) layout.now.sizes.nodes (λ e. growth_of (get_or edges.old e 0)) }
@@ -128,7 +126,6 @@ pub fn grow_ways(
     queued: &mut [bool; PLANE],
 ) -> usize
     requires listed_bound { listed ≤ 3600 }
-    requires edges_len { length edges.old ≡ planes }
     requires queue { Queue 0 0 lists.old queued.old }
     requires places { Places layout.now.sizes.nodes listed (active_at lists.old) }
     requires leads { Leads (plan_in layout.now) layout.now.sizes.nodes (λ e. growth_of (get_or edges.old e 0)) }

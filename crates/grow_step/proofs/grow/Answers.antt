@@ -1,16 +1,23 @@
 -- `grow_step::grow` meets its contract. Assumes nothing.
-use mathlib.Core.Path.{◌∙◌}
-use native.Mathlib.Omega.{arith}
-use Rattle.queue.specs.LawsEmpty.{queue-none}
+use Rattle.std.proofs.Common.{rules}
+use Rattle.flat.specs.Entries.{Long}
 use Rattle.grow_step.proofs.Entries.{leads, none-falls, long, openings, grows}
 use Rattle.grow_step.proofs.grow.Goals as goal
 
-pub grow_ways-count-requires : goal.grow_ways-count-requires
-grow_ways-count-requires c = record { listed_bound = omega (arith, c.list_active-listed.ensures.few, c.requires.safe.nodes); safe = c.requires.safe; edges_len = c.requires.long.of-edges; queue = queue-none _ _ _ (c.list_active-listed.ensures.long ∙ c.requires.lists_len.0) c.requires.lists_len.1; places = c.list_active-listed.ensures.places; leads = leads _ _ _ _ c.requires.standing }
+pub grow_ways-count-requires-clause-leads : goal.grow_ways-count-requires-clause-leads
+grow_ways-count-requires-clause-leads c = leads _ _ _ _ c.requires.standing
 
-pub cut-requires : goal.cut-requires
-cut-requires c = record { nodes_bound = (c.requires.safe.nodes, c.requires.safe.sheets); table_value = none-falls _ _ _ _ c.requires.standing }
+pub cut-requires-clause-table_value : goal.cut-requires-clause-table_value
+cut-requires-clause-table_value c = none-falls _ _ _ _ c.requires.standing
 
 pub returns : goal.returns
 returns c =
-    let a = c.args in record { long_2 = long a.z a.table.now c.requires.safe a.nodes.now a.marks.now a.edges.now _ _ c.requires.long c.cut.ensures.nodes_after c.cut.ensures.marks_after _ c.grow_ways-count.ensures.long; grows = grows a.z a.table.now c.requires.safe a.nodes.now a.marks.now a.edges.now c.requires.long c.requires.standing _ _ _ c.list_active-listed.ensures _ _ _ _ c.grow_ways-count.ensures _ _ c.cut.ensures.nodes_after c.cut.ensures.marks_after; openings = openings a.z a.table.now c.requires.safe a.nodes.now a.marks.now a.edges.now c.requires.long c.requires.standing _ _ _ c.list_active-listed.ensures _ _ _ _ c.grow_ways-count.ensures c.cut.new.nodes c.cut.new.marks }
+    let l = c.args.layout.now in
+    let a = c.args.arrays.now in
+    let L : Long a.nodes a.marks a.edges = record { of-nodes = search rules; of-marks = search rules; of-edges = search rules } in
+    record {
+      long = long l.sizes l.table l.safe a.nodes a.marks a.edges _ _ L c.cut.ensures.nodes_after c.cut.ensures.marks_after _ c.grow_ways-count.ensures.long;
+      grows = grows l.sizes l.table l.safe a.nodes a.marks a.edges L c.requires.standing _ _ _ c.list_active-listed.ensures _ _ _ _ c.grow_ways-count.ensures _ _ c.cut.ensures.nodes_after c.cut.ensures.marks_after;
+      openings = openings l.sizes l.table l.safe a.nodes a.marks a.edges L c.requires.standing _ _ _ c.list_active-listed.ensures _ _ _ _ c.grow_ways-count.ensures c.cut.new.nodes c.cut.new.marks;
+      words = search rules;
+    }

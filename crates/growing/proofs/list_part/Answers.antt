@@ -8,6 +8,6 @@ loop-i-preserved c =
     let a = c.args in
     let l = c.loop-i in
     elim c.if-active.branch [
-      | then-active w ↦ rw (w.q-is, w.lists-is) (part-next a.first l.i a.nodes.now l.q a.lists.now l.lists l.invariant _ refl c.requires.n_bound.1 (omega arith) (sym c.active.ensures ∙ w.if-active.true))
+      | then-active w ↦ rw (w.q-is, w.lists-is) (part-next a.first l.i a.nodes.now l.q a.lists.now l.lists l.invariant _ refl c.told-lists (omega arith) (sym c.active.ensures ∙ w.if-active.true))
       | else-active w ↦ rw (w.q-is, w.lists-is) (part-past a.first l.i a.nodes.now l.q a.lists.now l.lists l.invariant _ refl (sym c.active.ensures ∙ w.if-active.false))
     ]
