@@ -1,23 +1,21 @@
 // A window as the machine's arrays.
 #![tactic(auto)]
 
-ghost use Rattle.std.specs.Prelude.{◌≡◌, true, ℕ, ◌+◌, ◌-◌, ◌*◌, ◌≤◌, ◌<◌, length, get_or, replicate};
+ghost use Rattle.std.specs.Prelude.{◌≡◌, true, ℕ, ◌+◌, ◌-◌, ◌*◌, ◌≤◌, ◌<◌, get_or};
 ghost use Rattle.steps.specs.Models.{of_model};
 ghost use Rattle.window.specs.Lists.{every};
 ghost use Rattle.window.specs.Formed.{well_formed};
-ghost use Rattle.flat.specs.Codes.{node_code, pointer_of, mark_code};
+ghost use Rattle.flat.specs.Codes.{node_code, mark_code};
 ghost use Rattle.flat.specs.Entries.{entry};
-ghost use Rattle.flat.specs.Plan.{Safe};
-ghost use Rattle.flat.specs.Stored.{stored};
-ghost use Rattle.plan.specs.Filled.{Filled};
 ghost use Rattle.plan.specs.Passes.{passes};
-ghost use Rattle.unpack.specs.Edges.{edge_by, sheet_rule, kind_on};
+ghost use Rattle.unpack.specs.Edges.{edge_by, kind_on};
 ghost use Rattle.unpack.specs.Unpacked.{Unpacked};
 ghost use Rattle.unpack.specs.Rides.{rides_by, rides_in};
 
-use flat::{FALLS, FRESH, MARGIN, NO_EDGE, PLANE, PLANES, RESET, RISES, SLOTS, Sizes, TABLE};
+use flat::{Arrays, FALLS, FRESH, Layout, MARGIN, NO_EDGE, PLANE, PLANES, RESET, RISES, Sizes};
+use plan::{ShapeLayout, store};
 use shape::MAX_SHEET_NODES;
-use window::{MAX_SLOTS, Mark, Node, Window};
+use window::{Mark, Node, Window};
 
 fn node_code(node: Node) -> u8
     requires { node.pointer < 32 }
@@ -39,154 +37,83 @@ fn mark_code(mark: Mark) -> u16
 fn edge_by(fresh: u16, growth: u8, correction: bool) -> u8
     ensures { result ≡ edge_by fresh growth correction }
 {
-    let code = flat::edge(growth % 4, correction);
     if fresh == 0 {
-        return code;
-    }
-    NO_EDGE
-}
-
-// A sheet's edges of a kind: from the slot e on, to the entry x on.
-fn edges_sheet(
-    fresh: usize,
-    x: usize,
-    e: usize,
-    n: usize,
-    growth: &[u8; MAX_SLOTS],
-    correction: &[bool; MAX_SLOTS],
-    edges: &mut [u8; PLANES],
-    table: &[u16; TABLE],
-)
-    requires { (fresh + n ≤ 7680) × (x + n ≤ 27648) × (e + n ≤ 21600) }
-    ensures { edges.new ≡ stored x (sheet_rule growth.now correction.now table.now fresh e) n edges.old }
-{
-    let mut i: usize = 0;
-    while i < n {
-        edges[x + i] = edge_by(table[fresh + i], growth[e + i], correction[e + i]);
-        i += 1;
+        flat::edge(growth % 4, correction)
+    } else {
+        NO_EDGE
     }
 }
 
 // A kind's edges, of the sheets that are there; one that goes up has none in the top sheet.
-fn edges_kind(
-    z: Sizes,
-    kind: usize,
-    there: usize,
-    growth: &[u8; MAX_SLOTS],
-    correction: &[bool; MAX_SLOTS],
-    edges: &mut [u8; PLANES],
-    table: &[u16; TABLE],
-)
-    requires { (kind < 6) × (z.nodes ≤ 3600) × (z.sheet ≤ 240) × (there * z.sheet ≤ z.nodes) × (get_or table.now (160 + kind) 0 ≤ 1) × (there ≤ 15) }
-    ensures { edges.new ≡ kind_on z.nodes z.sheet there growth.now correction.now table.now kind edges.old }
+fn edges_kind(w: &Window, layout: &Layout, there: usize, kind: usize, edges: &mut [u8; PLANES])
+    requires { (kind < 6) × (there * layout.now.sizes.sheet ≤ layout.now.sizes.nodes) × (get_or layout.now.table (160 + kind) 0 ≤ 1) × (there ≤ 15) }
+    ensures { edges.new ≡ kind_on layout.now.sizes.nodes layout.now.sizes.sheet there w.now.growth w.now.correction layout.now.table kind edges.old }
 {
-    let n = z.sheet;
-    let first = table[RISES + kind] as usize;
-    let mut x = kind * PLANE + MARGIN + first * n;
-    let mut e = z.nodes * kind + first * n;
-    let mut k: usize = 0;
-    while k + first < there {
-        edges_sheet(
-            FRESH + MAX_SHEET_NODES * kind,
-            x,
-            e,
+    let n = layout.sizes.sheet;
+    let first = layout.table[RISES + kind] as usize;
+    let fresh = FRESH + MAX_SHEET_NODES * kind;
+    let slots = layout.sizes.nodes * kind + first * n;
+    let cells = kind * PLANE + MARGIN + first * n;
+    for k in 0..there.saturating_sub(first) {
+        let e = slots + k * n;
+        store(
+            cells + k * n,
             n,
-            growth,
-            correction,
+            |i| edge_by(
+                layout.table[fresh + i],
+                w.growth[e + i],
+                w.correction[e + i],
+            ),
             edges,
-            table,
         );
-        x += n;
-        e += n;
-        k += 1;
     }
 }
 
-fn edges_kinds<'a>(
-    z: Sizes,
-    there: usize,
-    growth: &'a [u8; MAX_SLOTS],
-    correction: &'a [bool; MAX_SLOTS],
-    edges: &mut [u8; PLANES],
-    table: &[u16; TABLE],
-)
-    requires { (z.kinds ≤ 6) × (z.nodes ≤ 3600) × (z.sheet ≤ 240) × (there * z.sheet ≤ z.nodes) × ((kind : ℕ) → kind < z.kinds → get_or table.now (160 + kind) 0 ≤ 1) × (there ≤ 15) }
-    ensures { edges.new ≡ passes (kind_on z.nodes z.sheet there growth.now correction.now table.now) z.kinds edges.old }
+fn edges_kinds(w: &Window, layout: &Layout, there: usize, edges: &mut [u8; PLANES])
+    requires { (there * layout.now.sizes.sheet ≤ layout.now.sizes.nodes) × ((kind : ℕ) → kind < layout.now.sizes.kinds → get_or layout.now.table (160 + kind) 0 ≤ 1) × (there ≤ 15) }
+    ensures { edges.new ≡ passes (kind_on layout.now.sizes.nodes layout.now.sizes.sheet there w.now.growth w.now.correction layout.now.table) layout.now.sizes.kinds edges.old }
 {
-    let kinds = z.kinds;
-    let mut kind: usize = 0;
-    while kind < kinds {
-        edges_kind(z, kind, there, growth, correction, edges, table);
-        kind += 1;
+    for kind in 0..layout.sizes.kinds {
+        edges_kind(w, layout, there, kind, edges);
     }
 }
 
-// The arrays of a window, in arrays without edges.
-pub fn unpack(
-    w: Window,
-    nodes: &mut [u8; PLANE],
-    marks: &mut [u16; PLANE],
-    edges: &mut [u8; PLANES],
-    table: &[u16; TABLE],
-)
-    requires w_value { well_formed (of_model w.shape.model) w ≡ true }
-    requires filled { Filled (of_model w.shape.model) w.shape.height w.shape.distance table.now }
-    requires nodes_len { (length nodes.old ≡ 4608) × (length marks.old ≡ 4608) × (edges.old ≡ replicate 27648 3) }
-    ensures { Unpacked (of_model w.shape.model) w nodes.new marks.new edges.new }
+// The arrays of a window.
+pub fn unpack(w: &Window, laid: &ShapeLayout) -> Arrays
+    requires w_value { well_formed (of_model w.now.shape.model) w.now ≡ true }
+    requires shape_value { w.now.shape ≡ laid.now.shape }
+    ensures { Unpacked (of_model w.now.shape.model) w.now result.nodes result.marks result.edges }
 {
-    let z = plan::sizes(w.shape);
-    let there = window::present(w.shape, w.next);
-    let n = z.nodes;
-    let mut g: usize = 0;
-    while g < n {
-        let node = w.nodes[g];
-        let mark = node.mark;
-        nodes[MARGIN + g] = node_code(node);
-        marks[MARGIN + g] = mark_code(mark);
-        g += 1;
-    }
-    edges_kinds(z, there, &w.growth, &w.correction, edges, table);
-}
-
-fn pointed(v: u8) -> usize
-    ensures { (result ≡ pointer_of v) × (result < 32) }
-{
-    (v / 8) as usize
+    let mut arrays = Arrays::empty();
+    let n = laid.layout.sizes.nodes;
+    store(MARGIN, n, |g| node_code(w.nodes[g]), &mut arrays.nodes);
+    store(MARGIN, n, |g| mark_code(w.nodes[g].mark), &mut arrays.marks);
+    edges_kinds(
+        w,
+        &laid.layout,
+        window::present(w.shape, w.next),
+        &mut arrays.edges,
+    );
+    arrays
 }
 
 // A pointer that goes over an open edge, or is C.
-fn rides_at(x: usize, p: usize, edges: &[u8; PLANES], table: &[u16; TABLE]) -> bool
-    requires { (512 ≤ x) × (x < 4112) × (p < 32) × (get_or table.now (32 + (p - 1)) 0 ≤ 24048) }
-    ensures { result ≡ rides_by edges.now table.now x p }
+fn rides_at(x: usize, p: usize, layout: &Layout, edges: &[u8; PLANES]) -> bool
+    requires { (512 ≤ x) × (x < 512 + layout.now.sizes.nodes) × (p < 32) }
+    ensures { result ≡ rides_by edges.now layout.now.table x p }
 {
-    if p == 0 {
-        return true;
-    }
-    let e = flat::over(x, table[SLOTS + (p - 1)]);
-    flat::is_open(edges[e])
+    p == 0 || flat::is_open(edges[layout.slot(x, p - 1)])
 }
 
 // Every pointer rides; in stage to grow those that fall out at the bottom are excepted.
-pub fn rides(
-    z: Sizes,
-    leaving: bool,
-    nodes: &[u8; PLANE],
-    edges: &[u8; PLANES],
-    table: &[u16; TABLE],
-) -> bool
-    requires { Safe z table.now }
-    ensures { result ≡ every z.nodes (λ g. rides_in z leaving nodes.now edges.now table.now (entry g)) }
+pub fn rides(layout: &Layout, leaving: bool, arrays: &Arrays) -> bool
+    ensures { result ≡ every layout.now.sizes.nodes (λ g. rides_in layout.now.sizes leaving arrays.now.nodes arrays.now.edges layout.now.table (entry g)) }
 {
-    let n = z.nodes;
-    let bottom = MARGIN + n - z.sheet;
-    let mut all = true;
-    let mut g: usize = 0;
-    while g < n {
-        let x = MARGIN + g;
-        let p = pointed(nodes[x]);
-        let out = leaving & ((bottom <= x) & (table[FALLS + p] == 1));
-        all = all & (out | rides_at(x, p, edges, table));
-        g += 1;
-    }
-    all
+    let Sizes { nodes, sheet, .. } = layout.sizes;
+    let bottom = MARGIN + nodes - sheet;
+    (MARGIN..MARGIN + nodes).all(|x| {
+        let p = flat::pointer(arrays.nodes[x]) as usize;
+        let out = leaving && bottom <= x && layout.table[FALLS + p] == 1;
+        out || rides_at(x, p, layout, &arrays.edges)
+    })
 }
