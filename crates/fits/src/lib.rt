@@ -38,7 +38,7 @@ fn pointer_fits(shape: Shape, sheets: usize, place: Place, pointer: u8) -> bool
 }
 
 // A node in its fresh state, its own number given.
-fn is_fresh(own: u16, node: Node) -> bool
+pub fn is_fresh(own: u16, node: Node) -> bool
     ensures { result ≡ is_fresh own node }
 {
     !node.active

@@ -12,8 +12,8 @@ use shape::{Place, Shape};
 use window::Window;
 
 // Every node and every slot of the window.
-fn used_fit(w: Window) -> bool
-    ensures { result ≡ every (size w) (node_fits_at (of_model w.shape.model) w) && every (size w) (λ g. every (of_model w.shape.model).kinds (slot_fits_at (of_model w.shape.model) w g)) }
+fn used_fit(w: &Window) -> bool
+    ensures { result ≡ every (size w.now) (node_fits_at (of_model w.now.shape.model) w.now) && every (size w.now) (λ g. every (of_model w.now.shape.model).kinds (slot_fits_at (of_model w.now.shape.model) w.now g)) }
 {
     let shape = w.shape;
     let stage = w.stage;
@@ -26,58 +26,31 @@ fn used_fit(w: Window) -> bool
         row: 0,
         column: 0,
     };
-    let mut g: usize = 0;
-    while g < n {
-        let node = w.nodes[g];
-        if !fits::node_fits(shape, stage, marks, there, led, place, g, node) {
+    for g in 0..n {
+        if !fits::node_fits(shape, stage, marks, there, led, place, g, w.nodes[g]) {
             return false;
         }
         if !fits::slots_fit(shape, there, n, place, g, &w.growth, &w.correction) {
             return false;
         }
         place = walk::next_place(shape, place);
-        g += 1;
     }
     true
 }
 
-// There is such a noise model.
-fn model_fits(shape: Shape) -> bool
-    ensures { result ≡ model_ok shape.model }
-{
-    extent::model_ok(shape.model as u32)
-}
-
-// How many slots a window has, one a kind for each node.
-fn slots(shape: Shape) -> usize
-    ensures { result ≡ (of_model shape.model).kinds * nodes_of shape.height shape.distance }
-{
-    extent::wide(steps::kinds(shape.model)) * extent::nodes(shape)
-}
-
+#[tactic(auto, unfolding(window::specs::Formed::well_formed))]
 pub fn well_formed(w: Window) -> bool
     ensures { result ≡ well_formed (of_model w.shape.model) w }
 {
     let shape = w.shape;
-    if !(extent::ranged(shape) & model_fits(shape)) {
-        return false;
-    }
-    if (w.next as usize) < extent::sheets(shape) {
-        return false;
-    }
-    if !used_fit(w) {
-        return false;
-    }
     let n = extent::nodes(shape);
-    if !unused::rest_unused(w, n) {
-        return false;
-    }
-    let end = slots(shape);
-    if !unused::halves_unused(&w.growth, end) {
-        return false;
-    }
-    if !unused::bits_unused(&w.correction, end) {
-        return false;
-    }
-    unused::bits_unused(&w.measured, extent::detectors(shape))
+    let slots = steps::kinds(shape.model) as usize * n;
+    extent::ranged(shape)
+        && extent::model_ok(shape.model as u32)
+        && extent::sheets(shape) <= w.next as usize
+        && used_fit(&w)
+        && unused::rest_unused(&w.nodes, n)
+        && unused::rest_unused(&w.growth, slots)
+        && unused::rest_unused(&w.correction, slots)
+        && unused::rest_unused(&w.measured, extent::detectors(shape))
 }

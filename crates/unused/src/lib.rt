@@ -1,55 +1,50 @@
 // Whether the entries behind a window's own are unused.
 #![tactic(auto)]
 
-ghost use Rattle.std.specs.Prelude.{◌≡◌, not, ◌≤◌, drop};
-ghost use Rattle.shape.specs.Sizes.{max_nodes};
+ghost use Rattle.std.specs.Prelude.{◌≡◌, Bool, not, drop};
 ghost use Rattle.window.specs.Lists.{all};
 ghost use Rattle.window.specs.Formed.{unused_node, is_empty};
 
-use shape::MAX_NODES;
-use window::{Mark, Window};
+use window::Node;
 
-// Behind the window's nodes nothing stands. The test is written out: a function that takes the node costs twice the time.
-pub fn rest_unused(w: Window, n: usize) -> bool
-    requires { n ≤ max_nodes }
-    ensures { result ≡ all unused_node (drop n w.nodes) }
-{
-    let mut g = n;
-    while g < MAX_NODES {
-        let node = w.nodes[g];
-        let mark = node.mark;
-        let Mark::Root(m) = mark else {
-            return false;
-        };
-        if !((((!node.active & !node.defect) & !node.unrooted) & (node.pointer == 0)) & (m == 0)) {
-            return false;
-        }
-        g += 1;
-    }
-    true
+// An entry of one of a window's arrays: an unused one is zero.
+pub trait Entry: Copy {
+    ghost is_unused: { Self → Bool };
+
+    fn is_unused(self) -> bool
+        ensures { result ≡ is_unused self };
 }
 
-// No early return here and below, so that many entries are read at once.
-pub fn halves_unused(growth: &[u8], n: usize) -> bool
-    ensures { result ≡ all is_empty (drop n growth.now) }
-{
-    let mut unused = true;
-    let mut e = n;
-    while e < growth.len() {
-        unused = unused & (growth[e] == 0);
-        e += 1;
+impl Entry for Node {
+    ghost is_unused = { unused_node };
+
+    fn is_unused(self) -> bool {
+        fits::is_fresh(0, self)
     }
-    unused
 }
 
-pub fn bits_unused(bits: &[bool], n: usize) -> bool
-    ensures { result ≡ all not (drop n bits.now) }
-{
-    let mut unused = true;
-    let mut e = n;
-    while e < bits.len() {
-        unused = unused & !bits[e];
-        e += 1;
+impl Entry for u8 {
+    ghost is_unused = { is_empty };
+
+    fn is_unused(self) -> bool {
+        self == 0
     }
-    unused
+}
+
+impl Entry for bool {
+    ghost is_unused = { not };
+
+    fn is_unused(self) -> bool {
+        !self
+    }
+}
+
+// The entries behind the first n are unused. No early return, so that many entries are read at once.
+pub fn rest_unused<E: Entry>(entries: &[E], n: usize) -> bool
+    ensures { result ≡ all E.is_unused (drop n entries.now) }
+{
+    entries
+        .iter()
+        .skip(n)
+        .fold(true, |unused, entry| unused & entry.is_unused())
 }

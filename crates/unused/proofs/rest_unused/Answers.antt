@@ -1,35 +1,28 @@
 -- `unused::rest_unused` meets its contract. Assumes nothing.
-use mathlib.Core.Path.{refl, ◌∙◌}
-use native.Mathlib.Omega.{arith}
-use lib.ListN.{get_or}
-use Rattle.window.specs.Formed.{unused_node}
-use Rattle.window.specs.LawsFormed.{fresh-reset, fresh-root}
-use Rattle.window.specs.Window.{beyond}
-use Rattle.unused.proofs.Behind.{fails, passes, ends}
+use Rattle.std.proofs.Common.{◌≡◌, refl, ◌∙◌, Bool, true, false, ◌&&◌, List, [], ◌∷◌, drop, rules, tests}
+use Rattle.std.proofs.lemmas.Iterator.{YieldsList-from_slice}
+use Rattle.std.proofs.lemmas.Iterator.Adapters.{YieldsList-from_skip}
+use Rattle.std.proofs.lemmas.Iterator.Consumers.{fold_from_yields_List}
+use Rattle.std.specs.List.{fold}
+use Rattle.window.specs.Lists.{all}
 use Rattle.unused.proofs.rest_unused.Goals as goal
 
-pub loop-g-init : goal.loop-g-init
-loop-g-init c = (c.requires, refl)
+and-true : (b : Bool) → b ≡ b && true
+and-true true = refl
+and-true false = refl
 
-pub returns-in_default : goal.returns-in_default
-returns-in_default c = let l = c.loop-g in
-    fails unused_node c.args.w.nodes c.args.n l.g l.invariant.1 beyond
-    (omega (arith, c.loop-g-test.true, c.well_formed.0.1.1.1.1.1.0.1.0.1))
-    (fresh-reset 0 (get_or c.args.w.nodes l.g beyond) c.in_default.is)
+regroup : (a b c : Bool) → (a && b) && c ≡ a && (b && c)
+regroup true b c = refl
+regroup false b c = refl
 
-pub returns-then-not-node-m : goal.returns-then-not-node-m
-returns-then-not-node-m c = let l = c.loop-g in
-    fails unused_node c.args.w.nodes c.args.n l.g l.invariant.1 beyond
-    (omega (arith, c.loop-g-test.true, c.well_formed.0.1.1.1.1.1.0.1.0.1))
-    (fresh-root 0 (get_or c.args.w.nodes l.g beyond) _ c.in-Root.is ∙ c.if-not-node-m.true)
-
-pub loop-g-preserved : goal.loop-g-preserved
-loop-g-preserved c = let l = c.loop-g in (
-  omega arith,
-  passes unused_node c.args.w.nodes c.args.n l.g l.invariant.1 beyond
-      (omega (arith, c.loop-g-test.true, c.well_formed.0.1.1.1.1.1.0.1.0.1))
-      (fresh-root 0 (get_or c.args.w.nodes l.g beyond) _ c.in-Root.is ∙ c.if-not-node-m.false),
-)
+-- the fold of the code, from b on
+folds : {A : Type 0} (f : A → Bool) (b : Bool) (xs : List A) → fold (λ a x. a && f x) b xs ≡ b && all f xs
+unfolding all
+folds f b [] = and-true b
+folds f b (x ∷ xs) = folds f (b && f x) xs ∙ regroup b (f x) (all f xs)
 
 pub returns : goal.returns
-returns c = ends unused_node c.args.w.nodes c.args.n c.loop-g.g c.loop-g.invariant.1 (omega (arith, c.loop-g-test.false, c.well_formed.0.1.1.1.1.1.0.1.0.1))
+returns g c =
+    let f = g.E.Entry.is_unused in
+    fold_from_yields_List _ (λ a x. a && f x) true _ c.fold.ensures.ran (YieldsList-from_skip c.args.n (YieldsList-from_slice c.args.entries.now cc) cc) (λ a x b q k. search (rules, tests))
+    ∙ folds f true (drop c.args.n c.args.entries.now)
