@@ -1,5 +1,5 @@
 -- What a writer of lists measures, and what it passes over: entries of which none is set. Assumes nothing.
-use Rattle.std.specs.Prelude.{ℕ, ◌+◌, ◌-◌, ◌≤◌, ◌<◌, min, max, ◌≡◌, List, [], ◌∷◌, length, drop, get_or}
+use Rattle.std.specs.Prelude.{ℕ, ◌+◌, ◌-◌, ◌≤◌, ◌<◌, min, max, ◌≡◌, List, [], ◌∷◌, Option, Some, None, length, drop, get_or}
 use Rattle.list.specs.Sheet.{ones, skips, listed}
 
 -- the largest entry, 0 of none
@@ -24,3 +24,8 @@ pub record Gap (l : List ℕ) (from to : ℕ) : Type 0 where
 pub record Found (l : List ℕ) (from to : ℕ) : Type 0 where
   pub gap : Gap l from to
   pub next : to < length l → get_or l to 0 ≡ 1
+
+-- the next set entry, or none up to the end
+abbrev pub Next : List ℕ → ℕ → Option ℕ → Type 0
+Next l from (Some to) = Found l from to × (to < length l)
+Next l from None = Gap l from (length l)

@@ -2,13 +2,13 @@
 // bits of all entries together, a pass that becomes vector code, and is looked at no further.
 #![tactic(auto)]
 
-ghost use Rattle.std.specs.Prelude.{◌≡◌, true, ◌+◌, ◌≤◌, ◌<◌, min, length};
+ghost use Rattle.std.specs.Prelude.{◌≡◌, true, ◌+◌, ◌≤◌, ◌<◌, min, length, Some};
 ghost use Rattle.refusal.specs.Writing.{front, put_to};
 ghost use Rattle.number.specs.Number.{written_buffered};
 ghost use Rattle.list.specs.Sheet.{ones as ones_of, listed as listed_of, are_bits, write_list};
-ghost use Rattle.list_writer.specs.Gaps.{top as top_of, Gap, Found, Measured};
+ghost use Rattle.list_writer.specs.Gaps.{top as top_of, Gap, Next, Measured};
 
-use number::Wrote;
+use number::{number_len, put_number};
 use refusal::Refusal;
 
 // What a list comes to: the bits of all entries together, how many are set, and how many bytes it has in a stream.
@@ -23,13 +23,7 @@ pub struct Measure {
 fn union(entries: &[u8]) -> u8
     ensures { min result 2 ≡ min (top_of entries.now) 2 }
 {
-    let mut seen: u8 = 0;
-    let mut j = 0;
-    while j < entries.len() {
-        seen = seen | entries[j];
-        j += 1;
-    }
-    seen
+    entries.iter().fold(0, |seen, entry| seen | *entry)
 }
 
 // Here begins a block of 16 entries, counted from the end, that are all 0.
@@ -45,15 +39,16 @@ fn blank(entries: &[u8], from: usize) -> bool
     union(&entries[from..end]) == 0
 }
 
-// The place of the next set entry, or the end where none is set.
-fn next_set(entries: &[u8], from: usize) -> usize
+// The place of the next set entry.
+fn next_set(entries: &[u8], from: usize) -> Option<usize>
     requires { from ≤ length entries.now }
-    ensures { Found entries.now from result }
+    ensures { Next entries.now from result }
 {
     let mut j = from;
+    // stays: steps by 16 or by 1, which no range does
     while j < entries.len() {
         if entries[j] == 1 {
-            return j;
+            return Some(j);
         }
         if blank(entries, j) {
             j += 16;
@@ -61,39 +56,31 @@ fn next_set(entries: &[u8], from: usize) -> usize
             j += 1;
         }
     }
-    j
+    None
 }
 
 // Measures a list.
 pub fn measured(entries: &[u8]) -> Measure
     ensures { Measured entries.now result.bits result.ones result.len }
 {
-    let seen = union(entries);
-    if seen == 0 {
+    let bits = union(entries);
+    if bits == 0 {
         return Measure {
-            bits: 0,
+            bits,
             ones: 0,
             len: 1,
         };
     }
     let mut ones: u64 = 0;
-    let mut count: usize = 0;
+    let mut len: usize = 0;
     let mut from: usize = 0;
-    while from < entries.len() {
-        let place = next_set(entries, from);
-        if place < entries.len() {
-            ones += 1;
-            count += number::number_len((place - from) as u64);
-            from = place + 1;
-        } else {
-            from = place;
-        }
+    while let Some(place) = next_set(entries, from) {
+        ones += 1;
+        len += number_len((place - from) as u64);
+        from = place + 1;
     }
-    Measure {
-        bits: seen,
-        ones,
-        len: count + number::number_len(ones),
-    }
+    len += number_len(ones);
+    Measure { bits, ones, len }
 }
 
 // Writes a list, of which so many entries are set, at the front of a buffer that has room, and answers its bytes. It looks for one set entry
@@ -101,30 +88,28 @@ pub fn measured(entries: &[u8]) -> Measure
 pub fn put_measured(entries: &[u8], ones: u64, out: &mut [u8]) -> usize
     requires ones_value { ones ≡ ones_of entries.now }
     requires entries_in_bounds { length (listed_of entries.now) ≤ length out.old }
-    ensures { put_to result out.new ≡ front out.old (listed_of entries.now) }
+    ensures { put_to (Some result) out.new ≡ front out.old (listed_of entries.now) }
 {
-    let mut i = number::put_number(ones, out);
-    let mut left = ones;
+    let mut i = put_number(ones, out).unwrap();
     let mut from: usize = 0;
-    while 0 < left {
-        let place = next_set(entries, from);
+    for _ in 0..ones {
+        let place = next_set(entries, from).unwrap();
         let skipped = (place - from) as u64;
-        i += number::put_number(skipped, &mut out[i..]);
+        i += put_number(skipped, &mut out[i..]).unwrap();
         from = place + 1;
-        left -= 1;
     }
     i
 }
 
-// Writes a list at the front of a buffer and answers its bytes; 0, and nothing written, where it has no room.
-pub fn put_list(entries: &[u8], out: &mut [u8]) -> usize
+// Writes a list at the front of a buffer and answers its bytes; None, and nothing written, where it has no room.
+pub fn put_list(entries: &[u8], out: &mut [u8]) -> Option<usize>
     ensures { put_to result out.new ≡ front out.old (listed_of entries.now) }
 {
     let m = measured(entries);
     if out.len() < m.len {
-        return 0;
+        return None;
     }
-    put_measured(entries, m.ones, out)
+    Some(put_measured(entries, m.ones, out))
 }
 
 // Each byte is 0 or 1.
@@ -135,18 +120,15 @@ pub fn are_bits(entries: &[u8]) -> bool
 }
 
 // Writes a list from an offset on.
-pub fn write_list(entries: &[u8], out: &mut [u8], at: usize) -> Wrote
+pub fn write_list(entries: &[u8], out: &mut [u8], at: usize) -> Result<usize, Refusal>
     ensures { written_buffered result out.new ≡ write_list entries.now out.old at }
 {
     if out.len() < at {
-        return Wrote::Not(Refusal::Offset);
+        return Err(Refusal::Offset);
     }
     if !are_bits(entries) {
-        return Wrote::Not(Refusal::Byte);
+        return Err(Refusal::Byte);
     }
-    let count = put_list(entries, &mut out[at..]);
-    if count == 0 {
-        return Wrote::Not(Refusal::Room);
-    }
-    Wrote::To(at + count)
+    let count = put_list(entries, &mut out[at..]).ok_or(Refusal::Room)?;
+    Ok(at + count)
 }

@@ -1,5 +1,5 @@
 -- A record that is put at a buffer's front in parts, one after another. Assumes nothing.
-use Rattle.std.specs.Prelude.{ℕ, ◌+◌, ◌-◌, ◌≤◌, ◌≡◌, refl, List, [], ◌++◌, Some, length, take, drop}
+use Rattle.std.specs.Prelude.{ℕ, ◌+◌, ◌-◌, ◌≤◌, ◌≡◌, refl, List, [], ◌++◌, Option, Some, length, take, drop}
 use Rattle.std.proofs.Common.{arith, sym, ◌∙◌, ap, subst, append-nil, length-append, length-drop, drop_at, length-take-le, drop-drop}
 use Rattle.std.proofs.Math.Seq.{take-append_seam}
 use Rattle.refusal.specs.Writing.{Put, put_to, front}
@@ -68,6 +68,16 @@ parts_first bytes old part rest count last e h put =
       room = h;
       within = omega (arith, n);
     }
+
+-- what has room was put
+pub front-some : (old bytes : List ℕ) (count : Option ℕ) (last : List ℕ) → length bytes ≤ length old → put_to count last ≡ front old bytes → count ≡ Some (length bytes)
+front-some old bytes count last h put = ap (λ (p : Put). p.count) (put ∙ front_fits old bytes h)
+
+-- and so was each part
+pub part-some : (bytes old out : List ℕ) (i : ℕ) (part rest : List ℕ) (count : Option ℕ) (last : List ℕ) → Parts bytes old out i (part ++ rest)
+    → put_to count last ≡ front (tail out i) part → count ≡ Some (length part)
+part-some bytes old out i part rest count last p put =
+    (tail-fits out i (parts-inside p) part count last put (omega (arith, parts-left p, length-append part rest, p.room, parts-length p))).0
 
 -- one part more, handed to the tail
 module _ (bytes old out : List ℕ) (i : ℕ) (part rest : List ℕ) (count : ℕ) (last : List ℕ) (p : Parts bytes old out i (part ++ rest))

@@ -1,5 +1,5 @@
 -- `list_writer::are_bits` meets its contract. Assumes nothing.
-use mathlib.Core.Path.{sym}
+use Rattle.std.proofs.Common.{sym}
 use Rattle.list_writer.specs.Laws.{bits-told}
 use Rattle.list_writer.proofs.are_bits.Goals as goal
 

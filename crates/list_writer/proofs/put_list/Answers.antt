@@ -1,6 +1,5 @@
 -- `list_writer::put_list` meets its contract: a list that was measured is written where it has room. Assumes nothing.
-use mathlib.Core.Path.{sym}
-use native.Mathlib.Omega.{arith}
+use Rattle.std.proofs.Common.{sym, arith}
 use Rattle.refusal.specs.Filling.{front-full}
 use Rattle.list.specs.Sheet.{listed}
 use Rattle.list_writer.proofs.put_list.Goals as goal

@@ -1,29 +1,16 @@
 -- `list_writer::write_list` meets its contract: the tail of the buffer takes the list, or has no room for it. Assumes nothing.
-use mathlib.Core.Path.{◌≡◌, sym, ◌∙◌}
-use mathlib.Core.Bool.{Bool, true, false}
-use mathlib.Core.List.{List, [], ◌∷◌}
-use Prim.Native.Nat.{ℕ, ◌≤◌, ◌<◌}
-use native.Mathlib.Omega.{arith}
-use borrow.Author.Tests.{le-leb, lt-leb}
-use lib.Dec.{leb}
-use lib.ListN.{length}
-use Rattle.refusal.specs.Tests.{Passes, Turned, pass-none, pass-one, turn-here, turn-later}
-use Rattle.refusal.specs.declared.Refusal.TheVariants.{Offset, Byte}
+use Rattle.std.proofs.Common.{rules, ◌≡◌, sym, ◌∙◌, Bool, true, List, [], ◌∷◌, ℕ, ◌≤◌, length, leb, le-leb, arith, Err}
+use Rattle.std.proofs.lemmas.Bool.{lt-leb}
+use Rattle.refusal.specs.Tests.{Passes, pass-none, pass-one, turn-here, turn-later}
+use Rattle.refusal.specs.declared.Refusal.TheVariants.{Offset, Byte, Room}
 use Rattle.refusal.specs.Filling.{writing-turned}
-use Rattle.refusal.specs.Tails.{wrote_none, wrote-inside, wrote-some}
+use Rattle.refusal.specs.Tails.{put_none, put_some, wrote_none, wrote-inside, wrote-some}
 use Rattle.number.specs.Number.{in_slice}
 use Rattle.list.specs.Sheet.{listed, are_bits}
-use Rattle.list.specs.Laws.{length-listed}
 use Rattle.list_writer.proofs.write_list.Goals as goal
 
 abbrev tests : List ℕ → List ℕ → ℕ → List (Bool × ℕ)
 tests entries old at = in_slice old at ∷ (are_bits entries, 4) ∷ []
-
-past : (entries old : List ℕ) (at : ℕ) → length old < at → Turned (tests entries old at) Offset
-past entries old at h = turn-here (leb at (length old)) 10 ((are_bits entries, 4) ∷ []) (lt-leb at (length old) h)
-
-wild : (entries old : List ℕ) (at : ℕ) → at ≤ length old → are_bits entries ≡ false → Turned (tests entries old at) Byte
-wild entries old at h e = turn-later (leb at (length old)) 10 ((are_bits entries, 4) ∷ []) 4 (le-leb at (length old) h) (turn-here (are_bits entries) 4 [] e)
 
 passes : (entries old : List ℕ) (at : ℕ) → at ≤ length old → are_bits entries ≡ true → Passes (tests entries old at)
 passes entries old at h e = pass-one (leb at (length old)) 10 ((are_bits entries, 4) ∷ []) (le-leb at (length old) h) (pass-one (are_bits entries) 4 [] e pass-none)
@@ -31,33 +18,42 @@ passes entries old at h e = pass-one (leb at (length old)) 10 ((are_bits entries
 pub returns-then-out-at : goal.returns-then-out-at
 returns-then-out-at c =
     let a = c.args in
-    writing-turned (tests a.entries.now a.out.now a.at) a.out.now a.at (listed a.entries.now) Offset (past a.entries.now a.out.now a.at c.if-out-at.true)
+    writing-turned (tests a.entries.now a.out.now a.at) a.out.now a.at (listed a.entries.now) Offset
+    (turn-here (leb a.at (length a.out.now)) 10 ((are_bits a.entries.now, 4) ∷ []) (lt-leb a.at (length a.out.now) c.if-out-at.true))
 
 pub returns-then-not-are_bits : goal.returns-then-not-are_bits
 returns-then-not-are_bits c =
     let a = c.args in
-    writing-turned (tests a.entries.now a.out.now a.at) a.out.now a.at (listed a.entries.now) Byte (wild a.entries.now a.out.now a.at c.if-out-at.false (sym c.are_bits.ensures ∙ c.if-not-are_bits.true))
+    writing-turned (tests a.entries.now a.out.now a.at) a.out.now a.at (listed a.entries.now) Byte
+    (turn-later (leb a.at (length a.out.now)) 10 ((are_bits a.entries.now, 4) ∷ []) 4 (le-leb a.at (length a.out.now) c.if-out-at.false)
+    (turn-here (are_bits a.entries.now) 4 [] (sym c.are_bits.ensures ∙ c.if-not-are_bits.true)))
 
-pub returns-then-count-eq0 : goal.returns-then-count-eq0
-returns-then-count-eq0 c =
+pub returns-in_err-count : goal.returns-in_err-count
+returns-in_err-count c =
     let a = c.args in
-    let p = c.put_list-count in
+    let p = c.put_list in
     let i = c.if-out-at.false in
     let t = passes a.entries.now a.out.now a.at i (sym c.are_bits.ensures ∙ c.if-not-are_bits.false) in
-    wrote_none (tests a.entries.now a.out.now a.at) a.out.now a.at i (listed a.entries.now) p.result p.new.out p.ensures (length-listed a.entries.now).0 t c.if-count-eq0.true
+    let e : c.from_residual.result ≡ Err Room = search rules in
+    rw e (wrote_none (tests a.entries.now a.out.now a.at) a.out.now a.at i (listed a.entries.now) p.result p.new.out p.ensures t
+    (put_none p.result _ _ (sym c.ok_or.ensures.value ∙ c.in_err-count.was)))
 
 pub overflow_add-result : goal.overflow_add-result
 overflow_add-result c =
     let a = c.args in
-    let p = c.put_list-count in
+    let p = c.put_list in
     let i = c.if-out-at.false in
     let t = passes a.entries.now a.out.now a.at i (sym c.are_bits.ensures ∙ c.if-not-are_bits.false) in
-    omega (arith, wrote-inside (tests a.entries.now a.out.now a.at) a.out.now a.at i (listed a.entries.now) p.result p.new.out p.ensures (length-listed a.entries.now).0 t c.if-count-eq0.false, c.well_formed)
+    let r =
+    wrote-inside (tests a.entries.now a.out.now a.at) a.out.now a.at i (listed a.entries.now) p.result p.new.out p.ensures t c.in_ok-count.count
+    (put_some p.result _ _ (sym c.ok_or.ensures.value ∙ c.in_ok-count.was)) in
+    omega (arith, r, c.well_formed)
 
 pub returns : goal.returns
 returns c =
     let a = c.args in
-    let p = c.put_list-count in
+    let p = c.put_list in
     let i = c.if-out-at.false in
     let t = passes a.entries.now a.out.now a.at i (sym c.are_bits.ensures ∙ c.if-not-are_bits.false) in
-    wrote-some (tests a.entries.now a.out.now a.at) a.out.now a.at i (listed a.entries.now) p.result p.new.out p.ensures (length-listed a.entries.now).0 t c.if-count-eq0.false
+    wrote-some (tests a.entries.now a.out.now a.at) a.out.now a.at i (listed a.entries.now) p.result p.new.out p.ensures t c.in_ok-count.count
+    (put_some p.result _ _ (sym c.ok_or.ensures.value ∙ c.in_ok-count.was))
