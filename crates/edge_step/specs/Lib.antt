@@ -1,3 +1,5 @@
+-- the listed nodes
+pub mod Listed
 -- words that tell
 pub mod Each
 -- what becomes of correction bits in a merging step

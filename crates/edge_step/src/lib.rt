@@ -6,11 +6,12 @@ ghost use Rattle.std.specs.Prelude.{◌≡◌, true, [], ℕ, ◌+◌, ◌≤◌
 ghost use Rattle.flat.specs.Entries.{state_of};
 ghost use Rattle.flat.specs.Laid.{laid};
 ghost use Rattle.flat.specs.Rule.{sender};
-ghost use Rattle.flat.specs.Step.{list_at, Places};
+ghost use Rattle.flat.specs.Step.{Places};
 ghost use Rattle.flat.specs.Structs.{plan_in};
 ghost use Rattle.edge_step.specs.Edges.{TurnedEdge, edge_in, number_in, Turn, Turns, Flipped};
+ghost use Rattle.edge_step.specs.Listed.{list_of};
 
-use flat::{BACKS, LISTS, Layout, NO_EDGE, PLANE, PLANES};
+use flat::{BACKS, Layout, NO_EDGE, PLANE, PLANES};
 
 // An edge's number after the pushes of its two ends.
 fn turned(v: u8, mine: bool, theirs: bool) -> u8
@@ -39,19 +40,17 @@ fn turn_along(x: usize, layout: &Layout, nodes: &[u8; PLANE], edges: &[u8; PLANE
 // The words of the listed nodes that send, and how many there are.
 fn gather_turns(
     layout: &Layout,
-    from: usize,
-    count: usize,
+    listed: &[u16],
     nodes: &[u8; PLANE],
     edges: &[u8; PLANES],
-    lists: &[u16; LISTS],
     words: &mut [u32; PLANE],
 ) -> usize
-    requires count_bound { (from + count ≤ 13824) × (count ≤ 4608) }
-    requires places { Places layout.now.sizes.nodes count (list_at lists.now from) }
-    ensures { Turns (plan_in layout.now) (state_of nodes.now [] edges.now) (list_at lists.now from) count result words.new }
+    requires count_bound { length listed.now ≤ 4608 }
+    requires places { Places layout.now.sizes.nodes (length listed.now) (list_of listed.now) }
+    ensures { Turns (plan_in layout.now) (state_of nodes.now [] edges.now) (list_of listed.now) (length listed.now) result words.new }
 {
     let mut made = 0;
-    for &x in &lists[from..from + count] {
+    for &x in listed {
         let x = x as usize;
         if syncing::sends(nodes[x]) {
             words[made] = turn_along(x, layout, nodes, edges);
@@ -75,18 +74,16 @@ fn lay_turns(made: usize, edges: &mut [u8; PLANES], words: &[u32; PLANE])
 // The correction bits of the edges along which listed nodes send, and whether some node does.
 pub fn flips(
     layout: &Layout,
-    from: usize,
-    count: usize,
+    listed: &[u16],
     nodes: &[u8; PLANE],
     edges: &mut [u8; PLANES],
-    lists: &[u16; LISTS],
     words: &mut [u32; PLANE],
 ) -> bool
-    requires count_bound { (from + count ≤ 13824) × (count ≤ 4608) }
-    requires places { Places layout.now.sizes.nodes count (list_at lists.now from) }
-    ensures flipped { Flipped (plan_in layout.now) (state_of nodes.now [] edges.old) count (list_at lists.now from) result edges.new }
+    requires count_bound { length listed.now ≤ 4608 }
+    requires places { Places layout.now.sizes.nodes (length listed.now) (list_of listed.now) }
+    ensures flipped { Flipped (plan_in layout.now) (state_of nodes.now [] edges.old) (length listed.now) (list_of listed.now) result edges.new }
 {
-    let made = gather_turns(layout, from, count, nodes, edges, lists, words);
+    let made = gather_turns(layout, listed, nodes, edges, words);
     lay_turns(made, edges, words);
     0 < made
 }

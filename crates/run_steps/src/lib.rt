@@ -1,12 +1,14 @@
 // Merging steps on the machine's arrays, up to rest or through a budget.
 #![tactic(auto)]
 
-ghost use Rattle.flat.specs.Step.{list_at};
+ghost use Rattle.std.specs.Prelude.{◌+◌, ◌≤◌};
+ghost use Rattle.flat.specs.Step.{list_at, Places};
 ghost use Rattle.flat.specs.Structs.{plan_in, state_in};
 ghost use Rattle.queue.specs.Queue.{Queue};
+ghost use Rattle.merge_step.specs.Pass.{PassLeaves};
 ghost use Rattle.run_steps.specs.Going.{Shown, Stopped, Finished};
 
-use flat::{Arrays, Layout, PLANE, Work};
+use flat::{Arrays, LISTS, Layout, PLANE, Work};
 
 // How a run ended: at rest or not, and the steps made.
 #[derive(Clone, Copy)]
@@ -21,6 +23,22 @@ struct Stop {
     reached: Reached,
     from: usize,
     listed: usize,
+}
+
+// One step over the list at `from`.
+fn step(
+    layout: &Layout,
+    from: usize,
+    count: usize,
+    arrays: &mut Arrays,
+    lists: &[u16; LISTS],
+    words: &mut [u32; PLANE],
+) -> bool
+    requires count_bound { (from + count ≤ 13824) × (count ≤ 4608) }
+    requires places { Places layout.now.sizes.nodes count (list_at lists.now from) }
+    ensures { PassLeaves (plan_in layout.now) (state_in arrays.old) count (list_at lists.now from) layout.now.sizes.nodes result arrays.new.nodes arrays.new.marks arrays.new.edges words.new }
+{
+    merge_step::pass(layout, &lists[from..from + count], arrays, words)
 }
 
 // Steps over work lists, the first of them at 0. Where pointers do not ride on open edges, every step's list is the first one.
@@ -39,7 +57,7 @@ fn steps(
     let mut from = 0;
     let mut count = listed;
     for made in 0..budget {
-        let busy = merge_step::pass(layout, from, count, arrays, &work.lists, &mut work.words);
+        let busy = step(layout, from, count, arrays, &work.lists, &mut work.words);
         if !busy {
             let reached = Reached {
                 rest: true,

@@ -1,2 +1,0 @@
--- items of a range of an array
-pub mod Items

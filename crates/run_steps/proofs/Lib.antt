@@ -1,0 +1,2 @@
+-- a merging step over a part of the lists
+pub mod Listed
