@@ -1,16 +1,18 @@
 // What the first work list of a turn is made of: the nodes that were cut, with what lies over their open edges, and the new defects; or all nodes.
 #![tactic(auto)]
 
-ghost use Rattle.std.specs.Prelude.{◌≡◌, true, ℕ, ◌+◌, ◌-◌, ◌≤◌, ◌<◌, min, eqb, get_or};
-ghost use Rattle.window.specs.Lists.{any};
+ghost use Rattle.std.specs.Prelude.{◌≡◌, ◌||◌, true, false, ℕ, ◌+◌, ◌-◌, ◌≤◌, ◌<◌, eqb, fold, get_or};
 ghost use Rattle.flat.specs.Codes.{defect_of, growth_of};
 ghost use Rattle.flat.specs.Entries.{within};
-ghost use Rattle.flat.specs.Plan.{plan_of, Safe};
 ghost use Rattle.flat.specs.Step.{list_at, Places};
+ghost use Rattle.flat.specs.Structs.{plan_in};
 ghost use Rattle.queue.specs.Queue.{Queue, Inside};
 ghost use Rattle.enlist.specs.Enlisted.{Enlisted, Spread};
 
-use flat::{LISTS, MARGIN, PLANE, PLANES, RESET, Sizes, TABLE};
+use flat::{LISTS, Layout, MARGIN, PLANE, PLANES, RESET, Sizes};
+
+// Nodes that are looked at together for a defect.
+const PART_NODES: usize = 32;
 
 // All nodes.
 pub fn all_nodes(
@@ -25,55 +27,41 @@ pub fn all_nodes(
     ensures { Enlisted z.nodes count lists.old (λ i. true) (λ i. 512 + i) z.nodes result lists.new queued.new }
 {
     let mut q = count;
-    let mut i: usize = 0;
-    while i < z.nodes {
+    for i in 0..z.nodes {
         q = queue::push(MARGIN + i, 0, q, lists, queued);
-        i += 1;
     }
     q
 }
 
-// Some mark of a part is reset.
-fn any_reset(at: usize, n: usize, marks: &[u16; PLANE]) -> bool
-    requires { at + n ≤ 4608 }
-    ensures { result ≡ any n (λ i. eqb (get_or marks.now (at + i) 0) 65535) }
+// Some mark of a part is reset. All are looked at, so that this becomes vector code.
+fn any_reset(part: &[u16]) -> bool
+    ensures { result ≡ fold (λ b m. b || eqb m 65535) false part.now }
 {
-    let mut found = false;
-    let mut i: usize = 0;
-    while i < n {
-        found = found | (marks[at + i] == RESET);
-        i += 1;
-    }
-    found
+    part.iter().fold(false, |found, m| found | (*m == RESET))
 }
 
 // Nodes of a part that are marked reset, with what lies over their open edges.
 fn push_reset(
     at: usize,
     n: usize,
-    z: Sizes,
+    layout: &Layout,
     count: usize,
     marks: &[u16; PLANE],
     edges: &[u8; PLANES],
-    table: &[u16; TABLE],
     lists: &mut [u16; LISTS],
     queued: &mut [bool; PLANE],
 ) -> usize
-    requires safe { Safe z table.now }
-    requires le_at { (512 ≤ at) × (at + n ≤ 512 + z.nodes) }
+    requires le_at { (512 ≤ at) × (at + n ≤ 512 + layout.now.sizes.nodes) }
     requires queue { Queue 0 count lists.old queued.old }
-    requires places { Places z.nodes count (list_at lists.old 0) }
-    requires by_index { (x : ℕ) → within z.nodes x ≡ true → Inside (plan_of z table.now) (λ e. growth_of (get_or edges.now e 0)) x z.dirs z.nodes }
-    ensures { Spread (plan_of z table.now) (λ e. growth_of (get_or edges.now e 0)) z.nodes count lists.old (λ i. eqb (get_or marks.now (at + i) 0) 65535) (λ i. at + i) n result lists.new queued.new }
+    requires places { Places layout.now.sizes.nodes count (list_at lists.old 0) }
+    requires by_index { (x : ℕ) → within layout.now.sizes.nodes x ≡ true → Inside (plan_in layout.now) (λ e. growth_of (get_or edges.now e 0)) x layout.now.sizes.dirs layout.now.sizes.nodes }
+    ensures { Spread (plan_in layout.now) (λ e. growth_of (get_or edges.now e 0)) layout.now.sizes.nodes count lists.old (λ i. eqb (get_or marks.now (at + i) 0) 65535) (λ i. at + i) n result lists.new queued.new }
 {
     let mut q = count;
-    let mut i: usize = 0;
-    'each: while i < n {
+    for i in 0..n {
         let x = at + i;
-        i += 1;
         if marks[x] == RESET {
-            q = queue::push_open(x, z, 0, q, edges, table, lists, queued);
-            continue 'each;
+            q = queue::push_open(x, layout, 0, q, edges, lists, queued);
         }
     }
     q
@@ -81,26 +69,24 @@ fn push_reset(
 
 // The bottom sheet's nodes that were cut: no other mark is reset when a turn begins. Most rounds have none.
 pub fn push_cut(
-    z: Sizes,
+    layout: &Layout,
     count: usize,
     marks: &[u16; PLANE],
     edges: &[u8; PLANES],
-    table: &[u16; TABLE],
     lists: &mut [u16; LISTS],
     queued: &mut [bool; PLANE],
 ) -> usize
-    requires safe { Safe z table.now }
     requires queue { Queue 0 count lists.old queued.old }
-    requires places { Places z.nodes count (list_at lists.old 0) }
-    requires by_index { (x : ℕ) → within z.nodes x ≡ true → Inside (plan_of z table.now) (λ e. growth_of (get_or edges.now e 0)) x z.dirs z.nodes }
-    ensures { Spread (plan_of z table.now) (λ e. growth_of (get_or edges.now e 0)) z.nodes count lists.old (λ i. eqb (get_or marks.now (512 + z.nodes - z.sheet + i) 0) 65535) (λ i. 512 + z.nodes - z.sheet + i) z.sheet result lists.new queued.new }
+    requires places { Places layout.now.sizes.nodes count (list_at lists.old 0) }
+    requires by_index { (x : ℕ) → within layout.now.sizes.nodes x ≡ true → Inside (plan_in layout.now) (λ e. growth_of (get_or edges.now e 0)) x layout.now.sizes.dirs layout.now.sizes.nodes }
+    ensures { Spread (plan_in layout.now) (λ e. growth_of (get_or edges.now e 0)) layout.now.sizes.nodes count lists.old (λ i. eqb (get_or marks.now (512 + layout.now.sizes.nodes - layout.now.sizes.sheet + i) 0) 65535) (λ i. 512 + layout.now.sizes.nodes - layout.now.sizes.sheet + i) layout.now.sizes.sheet result lists.new queued.new }
 {
-    let sheet = z.sheet;
-    let bottom = MARGIN + z.nodes - sheet;
-    if !any_reset(bottom, sheet, marks) {
+    let sheet = layout.sizes.sheet;
+    let bottom = MARGIN + layout.sizes.nodes - sheet;
+    if !any_reset(&marks[bottom..bottom + sheet]) {
         return count;
     }
-    push_reset(bottom, sheet, z, count, marks, edges, table, lists, queued)
+    push_reset(bottom, sheet, layout, count, marks, edges, lists, queued)
 }
 
 // Nodes of a part that bear a defect.
@@ -117,26 +103,13 @@ fn push_hot(
     ensures { (m : ℕ) → at + n ≤ 512 + m → Places m count (list_at lists.old 0) → Enlisted m count lists.old (λ i. defect_of (get_or nodes.now (at + i) 0)) (λ i. at + i) n result lists.new queued.new }
 {
     let mut q = count;
-    let mut i: usize = 0;
-    'each: while i < n {
+    for i in 0..n {
         let x = at + i;
-        i += 1;
         if flat::defect(nodes[x]) {
             q = queue::push(x, 0, q, lists, queued);
-            continue 'each;
         }
     }
     q
-}
-
-// A part is of 32 nodes, the last one of what is left.
-fn part(left: usize) -> usize
-    ensures { result ≡ min 32 left }
-{
-    if 32 <= left {
-        return 32;
-    }
-    left
 }
 
 // The new sheet's defects: parts without one are passed over.
@@ -153,15 +126,11 @@ pub fn push_defects(
     ensures { Enlisted z.nodes count lists.old (λ i. defect_of (get_or nodes.now (512 + i) 0)) (λ i. 512 + i) z.sheet result lists.new queued.new }
 {
     let mut q = count;
-    let mut i: usize = 0;
-    'parts: while i < z.sheet {
-        let n = part(z.sheet - i);
-        if leave::is_quiet(MARGIN + i, n, nodes) {
-            i += n;
-            continue 'parts;
+    for first in (0..z.sheet).step_by(PART_NODES) {
+        let n = PART_NODES.min(z.sheet - first);
+        if !leave::is_quiet(MARGIN + first, n, nodes) {
+            q = push_hot(MARGIN + first, n, q, nodes, lists, queued);
         }
-        q = push_hot(MARGIN + i, n, q, nodes, lists, queued);
-        i += n;
     }
     q
 }

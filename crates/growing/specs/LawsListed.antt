@@ -1,5 +1,5 @@
 -- Laws of the list of active nodes: a loop's start and its turns. Assumes nothing.
-use Rattle.std.specs.Prelude.{ℕ, ◌+◌, ◌-◌, ◌≤◌, ◌<◌, ◌≡◌, refl, true, false, List, length, get_or, set}
+use Rattle.std.specs.Prelude.{ℕ, ◌+◌, ◌-◌, ◌≤◌, ◌<◌, ◌≡◌, true, false, List, length, get_or, set}
 use Rattle.std.proofs.Common.{arith, ap, sym, ◌∙◌, subst, ⊎_elim, eq-eqb, length-set, get_or-set_same, get_or-set_other}
 use Rattle.refusal.specs.Laws.{undone}
 use Rattle.shape.specs.Choice.{order}
@@ -13,24 +13,7 @@ use Rattle.growing.specs.Grown.{Actives}
 within_more : (n m x : ℕ) → n ≤ m → within n x ≡ true → within m x ≡ true
 within_more n m x l t = let r = inside n x t in let r0 = r.0 in let r1 = r.1 in within_by m x r0 (omega arith)
 
-pub actives-none : (nodes lists : List ℕ) → Actives 0 nodes 0 lists lists
-actives-none nodes lists =
-    record {
-      few = omega arith;
-      long = refl;
-      places = λ i l. absurd (omega arith);
-      active = λ i l. absurd (omega arith);
-      rise = λ i j l m. absurd (omega arith);
-      all = λ x w t. absurd (let r = inside 0 x w in let r0 = r.0 in let r1 = r.1 in omega arith);
-      before = λ i l. refl;
-    }
-
 module _ (n : ℕ) (nodes : List ℕ) (count : ℕ) (old lists : List ℕ) (A : Actives n nodes count old lists) where
-  -- by itself, and from an older list on
-  pub actives-here : Actives n nodes count lists lists
-  actives-here =
-      record { few = A.few; long = refl; places = A.places; active = A.active; rise = A.rise; all = A.all; before = λ i l. refl }
-
   pub actives-on : (m more : ℕ) (lists' : List ℕ) → Actives m nodes more lists lists' → Actives m nodes more old lists'
   actives-on m more lists' B =
       record {

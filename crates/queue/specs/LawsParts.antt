@@ -24,9 +24,9 @@ fold-none f b (x ∷ xs) e =
     let r = fold-none f (b || f x) xs e in
     let n = neither b (f x) r.0 in
     (n.0, λ i h. entry i h n.1 r.1) where
-  entry : (i : ℕ) → i < suc (length xs) → f x ≡ false → ((j : ℕ) → j < length xs → f (get_or xs j 0) ≡ false) → f (get_or (x ∷ xs) i 0) ≡ false
-  entry zero h p q = p
-  entry (suc i) h p q = q i (le_of_suc-le-suc h)
+      entry : (i : ℕ) → i < suc (length xs) → f x ≡ false → ((j : ℕ) → j < length xs → f (get_or xs j 0) ≡ false) → f (get_or (x ∷ xs) i 0) ≡ false
+      entry zero h p q = p
+      entry (suc i) h p q = q i (le_of_suc-le-suc h)
 
 -- so each of the part fails the test
 pub none-passes : (f : ℕ → Bool) (a n : ℕ) (xs : List ℕ) → a + n ≤ length xs → fold (λ b v. b || f v) false (part_of a n xs) ≡ false → (i : ℕ) → i < n → f (get_or xs (a + i) 0) ≡ false

@@ -1,11 +1,6 @@
--- `enlist::all_nodes` meets its contract. Assumes nothing.
-use Prim.Native.Nat.{◌≤◌, ◌-◌, ◌+◌}
-use mathlib.Core.Bool.{true}
+use Rattle.std.proofs.Common.{true, ◌+◌}
 use Rattle.enlist.specs.Enlisted.{Enlisted}
 use Rattle.enlist.proofs.all_nodes.Given as goal
 
 abbrev pub invariant-loop-i : goal.invariant-loop-i
-invariant-loop-i l = (l.i ≤ l.z.nodes) × Enlisted l.z.nodes l.count l.initial.lists (λ i. true) (λ i. 512 + i) l.i l.q l.lists l.queued
-
-abbrev pub decreases-loop-i : goal.decreases-loop-i
-decreases-loop-i l = l.z.nodes - l.i
+invariant-loop-i l = Enlisted l.fn.z.nodes l.count l.initial.lists (λ j. true) (λ j. 512 + j) l.i l.q l.lists l.queued

@@ -1,30 +1,24 @@
--- `enlist::push_hot` meets its contract. Assumes nothing.
-use mathlib.Core.Path.{refl, sym, ◌∙◌}
-use Prim.Native.Nat.{◌-◌, ◌+◌}
-use native.Mathlib.Omega.{arith}
+use Rattle.std.proofs.Common.{refl, sym, ◌∙◌, arith, ◌+◌}
 use Rattle.flat.specs.LawsEntries.{within_by}
-use Rattle.enlist.specs.Enlisted.{enlisted-none, enlisted-all, enlisted-past, enlisted-next}
+use Rattle.enlist.specs.Enlisted.{enlisted-none, enlisted-past, enlisted-next}
 use Rattle.enlist.proofs.push_hot.Goals as goal
+use Rattle.enlist.proofs.push_hot.Goals.{then-defect, else-defect}
 
-pub each-init : goal.each-init
-each-init c = (omega arith, c.requires.queue, λ m l p. enlisted-none _ _ _ _ _ _ c.requires.queue p)
+pub loop-i-init : goal.loop-i-init
+loop-i-init c = record { queue = c.requires.queue; enlisted = λ m l p. enlisted-none _ _ _ _ _ _ c.requires.queue p }
 
-pub push-q-requires : goal.push-q-requires
-push-q-requires c =
-    let l = c.each in record { x_bound = (omega arith, omega arith); queue = l.invariant.1 }
-
-pub each-preserved-then-defect : goal.each-preserved-then-defect
-each-preserved-then-defect c =
-    let l = c.each in (
-      omega arith,
-      c.push-q.ensures.queue,
-      λ m h p. enlisted-next _ _ _ _ _ _ _ _ _ (l.invariant.2 m h p) _ refl (within_by m (c.args.at + l.i) (omega arith) (omega arith)) _ _ _ c.push-q.ensures,
-    )
-
-pub each-preserved : goal.each-preserved
-each-preserved c =
-    let l = c.each in
-    (omega arith, l.invariant.1, λ m h p. enlisted-past _ _ _ _ _ _ _ _ _ (l.invariant.2 m h p) (sym c.defect.ensures ∙ c.if-defect.false))
-
-pub returns : goal.returns
-returns c = let l = c.each in λ m h p. enlisted-all _ _ _ _ _ _ _ _ _ (l.invariant.2 m h p) _ l.invariant.0 (omega arith)
+pub loop-i-preserved : goal.loop-i-preserved
+loop-i-preserved c =
+    let l = c.loop-i in
+    elim c.if-defect.branch [
+      | then-defect w ↦
+          rw (w.q-is, w.queued-is, w.lists-is) (record {
+            queue = w.push-q.ensures.queue;
+            enlisted = λ m h p. enlisted-next _ _ _ _ _ _ _ _ _ (l.invariant.enlisted m h p) _ refl (within_by m (c.args.at + l.i) (omega arith) (omega arith)) _ _ _ w.push-q.ensures;
+          })
+      | else-defect w ↦
+          rw (w.q-is, w.queued-is, w.lists-is) (record {
+            queue = l.invariant.queue;
+            enlisted = λ m h p. enlisted-past _ _ _ _ _ _ _ _ _ (l.invariant.enlisted m h p) (sym c.defect.ensures ∙ w.if-defect.false);
+          })
+    ]

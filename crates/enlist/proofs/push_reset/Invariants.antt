@@ -1,14 +1,8 @@
--- `enlist::push_reset` meets its contract. Assumes nothing.
-use Prim.Native.Nat.{◌≤◌, ◌-◌, ◌+◌}
-use lib.Dec.{eqb}
-use lib.ListN.{get_or}
+use Rattle.std.proofs.Common.{eqb, get_or, ◌+◌}
 use Rattle.flat.specs.Codes.{growth_of}
-use Rattle.flat.specs.Plan.{plan_of}
+use Rattle.flat.specs.Structs.{plan_in}
 use Rattle.enlist.specs.Enlisted.{Spread}
 use Rattle.enlist.proofs.push_reset.Given as goal
 
-abbrev pub invariant-each : goal.invariant-each
-invariant-each l = (l.i ≤ l.n) × Spread (plan_of l.z l.table) (λ e. growth_of (get_or l.edges e 0)) l.z.nodes l.count l.initial.lists (λ i. eqb (get_or l.marks (l.at + i) 0) 65535) (λ i. l.at + i) l.i l.q l.lists l.queued
-
-abbrev pub decreases-each : goal.decreases-each
-decreases-each l = l.n - l.i
+abbrev pub invariant-loop-i : goal.invariant-loop-i
+invariant-loop-i l = Spread (plan_in l.layout) (λ e. growth_of (get_or l.edges e 0)) l.layout.sizes.nodes l.count l.initial.lists (λ j. eqb (get_or l.marks (l.at + j) 0) 65535) (λ j. l.at + j) l.i l.q l.lists l.queued
