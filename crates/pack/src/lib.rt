@@ -1,15 +1,15 @@
 // A window from the machine's arrays.
 #![tactic(auto)]
 
-ghost use Rattle.std.specs.Prelude.{◌≡◌, ◌+◌, ◌*◌, ◌≤◌, ◌<◌, length, get_or};
+ghost use Rattle.std.specs.Prelude.{◌≡◌, ◌≤◌};
 ghost use Rattle.steps.specs.Models.{of_model};
 ghost use Rattle.flat.specs.Codes.{mark_of, node_of, growth_of, correction_of};
-ghost use Rattle.flat.specs.Entries.{state_of};
-ghost use Rattle.flat.specs.Stored.{stored};
+ghost use Rattle.flat.specs.Structs.{state_in};
 ghost use Rattle.shows.specs.Shows.{shown as shown_of, window_of};
 ghost use Rattle.pack.specs.Packed.{growths_on, bits_on};
 
-use flat::{MARGIN, PLANE, PLANES, RESET};
+use flat::{Arrays, MARGIN, NO_EDGE, PLANE, PLANES, RESET};
+use plan::store;
 use shape::{MAX_DETECTORS, MAX_NODES, Shape};
 use window::{MAX_SLOTS, Mark, Node, Stage, Window};
 
@@ -17,9 +17,10 @@ fn mark_of(m: u16) -> Mark
     ensures { result ≡ mark_of m }
 {
     if m == RESET {
-        return Mark::Reset;
+        Mark::Reset
+    } else {
+        Mark::Root(m)
     }
-    Mark::Root(m)
 }
 
 fn node_of(v: u8, m: u16) -> Node
@@ -38,58 +39,28 @@ fn node_of(v: u8, m: u16) -> Node
 fn shown(v: u8) -> u8
     ensures { result ≡ shown_of (growth_of v) }
 {
-    let growth = flat::growth(v);
-    if growth == flat::NO_EDGE {
-        return 0;
-    }
-    growth
-}
-
-// A kind's growth, from the entry x on.
-fn growth_kind(x: usize, e: usize, n: usize, edges: &[u8; PLANES], growth: &mut [u8; MAX_SLOTS])
-    requires { (x + n ≤ 27648) × (e + n ≤ 21600) }
-    ensures { growth.new ≡ stored e (λ i. shown_of (growth_of (get_or edges.now (x + i) 0))) n growth.old }
-{
-    let mut i: usize = 0;
-    while i < n {
-        growth[e + i] = shown(edges[x + i]);
-        i += 1;
+    match flat::growth(v) {
+        NO_EDGE => 0,
+        growth => growth,
     }
 }
 
-fn growth_kinds(model: u8, n: usize, edges: &[u8; PLANES], growth: &mut [u8; MAX_SLOTS])
-    requires { (n ≤ 3600) × (length growth.old ≡ 21600) }
-    ensures { growth.new ≡ growths_on (of_model model) n edges.now growth.old }
+// The growth and the correction bits of the edges, kind by kind, in the slots of a window of n nodes.
+fn edge_slots(
+    model: u8,
+    n: usize,
+    edges: &[u8; PLANES],
+    growth: &mut [u8; MAX_SLOTS],
+    correction: &mut [bool; MAX_SLOTS],
+)
+    requires { n ≤ 3600 }
+    ensures growth { growth.new ≡ growths_on (of_model model) n edges.now growth.old }
+    ensures correction { correction.new ≡ bits_on (of_model model) n edges.now correction.old }
 {
-    let kinds = extent::wide(steps::kinds(model));
-    let mut kind: usize = 0;
-    while kind < kinds {
-        growth_kind(kind * PLANE + MARGIN, n * kind, n, edges, growth);
-        kind += 1;
-    }
-}
-
-// A kind's correction bits.
-fn bits_kind(x: usize, e: usize, n: usize, edges: &[u8; PLANES], bits: &mut [bool; MAX_SLOTS])
-    requires { (x + n ≤ 27648) × (e + n ≤ 21600) }
-    ensures { bits.new ≡ stored e (λ i. correction_of (get_or edges.now (x + i) 0)) n bits.old }
-{
-    let mut i: usize = 0;
-    while i < n {
-        bits[e + i] = flat::corrected(edges[x + i]);
-        i += 1;
-    }
-}
-
-fn bits_kinds(model: u8, n: usize, edges: &[u8; PLANES], bits: &mut [bool; MAX_SLOTS])
-    requires { (n ≤ 3600) × (length bits.old ≡ 21600) }
-    ensures { bits.new ≡ bits_on (of_model model) n edges.now bits.old }
-{
-    let kinds = extent::wide(steps::kinds(model));
-    let mut kind: usize = 0;
-    while kind < kinds {
-        bits_kind(kind * PLANE + MARGIN, n * kind, n, edges, bits);
-        kind += 1;
+    for kind in 0..steps::kinds(model) as usize {
+        let x = kind * PLANE + MARGIN;
+        store(n * kind, n, |i| shown(edges[x + i]), growth);
+        store(n * kind, n, |i| flat::corrected(edges[x + i]), correction);
     }
 }
 
@@ -99,28 +70,26 @@ pub fn pack(
     stage: Stage,
     next: u32,
     measured: [bool; MAX_DETECTORS],
-    nodes: &[u8; PLANE],
-    marks: &[u16; PLANE],
-    edges: &[u8; PLANES],
+    arrays: &Arrays,
 ) -> Window
-    ensures { result ≡ window_of (of_model shape.model) shape stage next measured (state_of nodes.now marks.now edges.now) }
+    ensures { result ≡ window_of (of_model shape.model) shape stage next measured (state_in arrays.now) }
 {
     let n = extent::nodes(shape);
-    let mut all = [window::alone(0, false); MAX_NODES];
-    let mut g: usize = 0;
-    while g < n {
-        all[g] = node_of(nodes[MARGIN + g], marks[MARGIN + g]);
-        g += 1;
-    }
+    let mut nodes = [window::alone(0, false); MAX_NODES];
+    store(
+        0,
+        n,
+        |g| node_of(arrays.nodes[MARGIN + g], arrays.marks[MARGIN + g]),
+        &mut nodes,
+    );
     let mut growth = [0; MAX_SLOTS];
-    growth_kinds(shape.model, n, edges, &mut growth);
     let mut correction = [false; MAX_SLOTS];
-    bits_kinds(shape.model, n, edges, &mut correction);
+    edge_slots(shape.model, n, &arrays.edges, &mut growth, &mut correction);
     Window {
         shape,
         stage,
         next,
-        nodes: all,
+        nodes,
         growth,
         correction,
         measured,
