@@ -9,6 +9,9 @@ pub mod Rule
 pub mod Step
 -- loops that store: one entry after the other, or at the places of a list
 pub mod Stored
+pub mod LawsStored
+-- entries taken together
+pub mod Together
 pub mod Laid
 -- readings stay in the arrays
 pub mod Bounds

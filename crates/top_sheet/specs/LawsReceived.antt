@@ -7,8 +7,8 @@ use Rattle.std.proofs.Math.Path.{refl, ap, subst}
 use Rattle.std.proofs.Math.Bool.{false}
 use mathlib.Core.List.{List}
 use Rattle.std.proofs.Math.Logic.{⊎_elim}
-use Rattle.std.specs.Int.Bits.{bit_or, or_add_and}
-use Rattle.std.proofs.lemmas.Nat.{and_le_l, and_le_r}
+use Rattle.std.specs.Int.Bits.{bit_or}
+use Rattle.std.specs.List.{fold, between}
 use Rattle.std.proofs.Math.Dec.{eqb}
 use Rattle.std.proofs.Math.ListN.{length, get_or, length-set}
 use Rattle.std.proofs.Math.Seq.{get_or-set_same, get_or-set_other}
@@ -19,17 +19,12 @@ use Rattle.shape.specs.Sizes.{detectors_of}
 use Rattle.flat.specs.Codes.{node_code}
 use Rattle.flat.specs.Entries.{plane}
 use Rattle.flat.specs.LawsEntries.{row_fits, row_low}
+use Rattle.flat.specs.Together.{bits-most}
 use Rattle.top_sheet.specs.Received.{Received, place_of, put_one, put_from}
 
 -- A BLOCK OF BYTES: none has a bit
-pub none-next : (l : List ℕ) (at i seen : ℕ) → (seen ≡ 0 → (j : ℕ) → j < i → get_or l (at + j) 0 ≡ 0) → bit_or seen (get_or l (at + i) 0) ≡ 0 → (j : ℕ) → j < i + 1 → get_or l (at + j) 0 ≡ 0
-none-next l at i seen v e j h =
-    let o = or_add_and seen (get_or l (at + i) 0) in
-    let p = and_le_l seen (get_or l (at + i) 0) in
-    let q = and_le_r seen (get_or l (at + i) 0) in
-    let a : seen ≡ 0 = omega (arith, o, p, q) in
-    let b : get_or l (at + i) 0 ≡ 0 = omega (arith, o, p, q) in
-    ⊎_elim (v a j) (λ y. let k : i ≡ j = omega arith in subst (λ (x : ℕ). get_or l (at + x) 0 ≡ 0) k b) (order j i)
+pub block-blank : (l : List ℕ) (at n : ℕ) → at + n ≤ length l → fold bit_or 0 (between at (at + n) l) ≡ 0 → (i : ℕ) → i < n → get_or l (at + i) 0 ≡ 0
+block-blank l at n r e i h = let v = bits-most l at (at + n) r i (omega arith) in omega (arith, v, e)
 
 -- A LOOP'S TURNS
 module _ (d : ℕ) (bytes : List ℕ) where

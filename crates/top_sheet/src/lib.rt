@@ -1,7 +1,8 @@
 // The new top sheet on the flat machine's arrays: its nodes, its edges and its defects.
 #![tactic(auto)]
 
-ghost use Rattle.std.specs.Prelude.{◌≡◌, true, ℕ, ◌+◌, ◌*◌, ◌%◌, ◌≤◌, ◌<◌, length, get_or};
+ghost use Rattle.std.specs.List.{fold};
+ghost use Rattle.std.specs.Prelude.{bit_or, nat_eq, ◌≡◌, true, ℕ, ◌+◌, ◌*◌, ◌%◌, ◌≤◌, ◌<◌, length, get_or};
 ghost use Rattle.shape.specs.Sizes.{in_range, detectors_of};
 ghost use Rattle.flat.specs.Entries.{plane};
 ghost use Rattle.flat.specs.Stored.{stored};
@@ -10,46 +11,13 @@ ghost use Rattle.top_sheet.specs.Received.{Received, place_of, put_one, put_from
 use flat::{MARGIN, PLANE, PLANES, Sizes, TABLE};
 use shape::Shape;
 
-pub fn clear_nodes(at: usize, n: usize, nodes: &mut [u8; PLANE])
-    requires { at + n ≤ 4608 }
-    ensures { nodes.new ≡ stored at (λ i. 0) n nodes.old }
-{
-    let mut i: usize = 0;
-    while i < n {
-        nodes[at + i] = 0;
-        i += 1;
-    }
-}
-
 // The nodes' own numbers.
 pub fn fresh_marks(z: Sizes, marks: &mut [u16; PLANE], table: &[u16; TABLE])
     requires { z.sheet ≤ 240 }
     ensures { marks.new ≡ stored 512 (λ i. get_or table.now (512 + i) 0) z.sheet marks.old }
 {
-    let n = z.sheet;
-    let mut i: usize = 0;
-    while i < n {
-        marks[MARGIN + i] = table[MARGIN + i];
-        i += 1;
-    }
-}
-
-// One value for a part of the edges.
-pub fn fill(at: usize, n: usize, value: u8, edges: &mut [u8; PLANES])
-    requires { at + n ≤ 27648 }
-    ensures { edges.new ≡ stored at (λ i. value) n edges.old }
-{
-    let mut i: usize = 0;
-    while i < n {
-        edges[at + i] = value;
-        i += 1;
-    }
-}
-
-fn growth_of(v: u16) -> u8
-    ensures { result ≡ v % 4 }
-{
-    (v % 4) as u8
+    let end = MARGIN + z.sheet;
+    marks[MARGIN..end].copy_from_slice(&table[MARGIN..end]);
 }
 
 // Edges with no growth, and places with no edge, as the table has them.
@@ -57,10 +25,9 @@ pub fn lay_edges(at: usize, n: usize, from: usize, edges: &mut [u8; PLANES], tab
     requires { (at + n ≤ 27648) × (from + n ≤ 7680) }
     ensures { edges.new ≡ stored at (λ i. get_or table.now (from + i) 0 % 4) n edges.old }
 {
-    let mut i: usize = 0;
-    while i < n {
-        edges[at + i] = growth_of(table[from + i]);
-        i += 1;
+    let entries = &table[from..from + n];
+    for (i, edge) in edges[at..at + n].iter_mut().enumerate() {
+        *edge = (entries[i] % 4) as u8;
     }
 }
 
@@ -68,17 +35,10 @@ pub fn lay_edges(at: usize, n: usize, from: usize, edges: &mut [u8; PLANES], tab
 const BLOCK: usize = 16;
 
 // No byte of a block is set.
-fn none_set(from: usize, bytes: &[u8]) -> bool
-    requires { from + 16 ≤ length bytes.now }
-    ensures { result ≡ true → (i : ℕ) → i < 16 → get_or bytes.now (from + i) 0 ≡ 0 }
+fn none_set(block: &[u8]) -> bool
+    ensures { result ≡ nat_eq (fold bit_or 0 block.now) 0 }
 {
-    let mut seen: u8 = 0;
-    let mut i: usize = 0;
-    while i < BLOCK {
-        seen = seen | bytes[from + i];
-        i += 1;
-    }
-    seen == 0
+    block.iter().fold(0, |bits, byte| bits | *byte) == 0
 }
 
 // A detector's defect, by its byte.
@@ -86,11 +46,9 @@ fn put(j: usize, d: usize, byte: u8, nodes: &mut [u8; PLANE])
     requires { (2 ≤ d) × (d ≤ 15) × (place_of d j < 4608) }
     ensures { nodes.new ≡ put_one d j byte nodes.old }
 {
-    if byte != 1 {
-        return;
+    if byte == 1 {
+        nodes[MARGIN + 1 + (j / (d - 1) * (d + 1) + j % (d - 1))] = 2;
     }
-    let x = MARGIN + 1 + (j / (d - 1) * (d + 1) + j % (d - 1));
-    nodes[x] = 2;
 }
 
 fn put_part(from: usize, n: usize, d: usize, bytes: &[u8], nodes: &mut [u8; PLANE])
@@ -98,10 +56,8 @@ fn put_part(from: usize, n: usize, d: usize, bytes: &[u8], nodes: &mut [u8; PLAN
     requires by_index { (j : ℕ) → j < length bytes.now → place_of d j < 4608 }
     ensures { nodes.new ≡ put_from d bytes.now from n nodes.old }
 {
-    let mut i: usize = 0;
-    while i < n {
-        put(from + i, d, bytes[from + i], nodes);
-        i += 1;
+    for i in from..from + n {
+        put(i, d, bytes[i], nodes);
     }
 }
 
@@ -110,10 +66,9 @@ fn put_block(from: usize, d: usize, bytes: &[u8], nodes: &mut [u8; PLANE])
     requires by_index { (j : ℕ) → j < length bytes.now → place_of d j < 4608 }
     ensures { nodes.new ≡ put_from d bytes.now from 16 nodes.old }
 {
-    if none_set(from, bytes) {
-        return;
+    if !none_set(&bytes[from..from + BLOCK]) {
+        put_part(from, BLOCK, d, bytes, nodes);
     }
-    put_part(from, BLOCK, d, bytes, nodes);
 }
 
 // The defects of a top sheet that is cleared; its boundary nodes stay.
@@ -125,10 +80,10 @@ pub fn receive(shape: Shape, bytes: &[u8], nodes: &mut [u8; PLANE])
     ensures { Received shape.height shape.distance bytes.now nodes.old nodes.new }
 {
     let d = shape.distance as usize;
-    let mut j: usize = 0;
-    while j + BLOCK <= bytes.len() {
-        put_block(j, d, bytes, nodes);
-        j += BLOCK;
+    let blocks = bytes.len() / BLOCK;
+    for k in 0..blocks {
+        put_block(k * BLOCK, d, bytes, nodes);
     }
-    put_part(j, bytes.len() - j, d, bytes, nodes);
+    let rest = blocks * BLOCK;
+    put_part(rest, bytes.len() - rest, d, bytes, nodes);
 }

@@ -1,34 +1,14 @@
--- `top_sheet::lay_edges` meets its contract: the entries passed are as the table has them. Assumes nothing.
-use native.Mathlib.Omega.{arith}
-use Rattle.flat.specs.Stored.{stored-none, stored_next, stored-done}
+-- `top_sheet::lay_edges` meets its contract: the edges passed are by the table. Assumes nothing.
+use Rattle.std.proofs.Common.{arith, ◌≡◌, ◌∙◌, ◌+◌, ◌-◌, ◌%◌, get_or}
+use Rattle.std.proofs.lemmas.List.Edits.{length-between}
+use Rattle.flat.specs.LawsStored.{stored-part}
 use Rattle.top_sheet.proofs.lay_edges.Goals as goal
 
-pub loop-i-init : goal.loop-i-init
-loop-i-init c = (omega arith, stored-none _ _ _)
-
-pub overflow_add-from : goal.overflow_add-from
-overflow_add-from c = omega arith
-
-pub offset_bounds-table-from : goal.offset_bounds-table-from
-offset_bounds-table-from c = omega arith
-
-pub bounds-table-from : goal.bounds-table-from
-bounds-table-from c = omega arith
-
-pub overflow_add-edges : goal.overflow_add-edges
-overflow_add-edges c = omega arith
-
-pub bounds-edges-at : goal.bounds-edges-at
-bounds-edges-at c = omega arith
-
-pub overflow_add-i : goal.overflow_add-i
-overflow_add-i c = omega arith
-
-pub loop-i-smaller : goal.loop-i-smaller
-loop-i-smaller c = omega arith
-
-pub loop-i-preserved : goal.loop-i-preserved
-loop-i-preserved c = let l = c.loop-i in (omega arith, stored_next _ _ _ _ _ _ l.invariant.1 c.growth_of.ensures)
-
 pub returns : goal.returns
-returns c = let l = c.loop-i in stored-done _ _ _ _ _ _ l.invariant.1 l.invariant.0 c.loop-i-test.false
+returns c =
+    let a = c.args in
+    let m : a.at + a.n - a.at ≡ a.n = omega arith in
+    let long = length-between a.edges.now a.at (a.at + a.n) (omega arith) in
+    stored-part a.at (λ i. get_or a.table.now (a.from + i) 0 % 4) 0 a.edges.now c.loop-i.edge-items a.n _
+    (c.loop-i.auto.edge-items ∙ long ∙ m) m (omega arith)
+    (λ i h. c.loop-i.invariant i (omega (arith, c.loop-i-test.false, long, h)))
