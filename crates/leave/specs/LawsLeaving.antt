@@ -1,9 +1,11 @@
 -- Laws of what leaves: a row of bytes stored behind those by the rule, and tests of a part one by one and by all their bits together. Assumes nothing.
-use Rattle.std.specs.Prelude.{ℕ, zero, suc, ◌+◌, ◌-◌, ◌*◌, ◌/◌, ◌%◌, ◌≤◌, ◌<◌, max, ◌≡◌, Bool, true, false, List, length, get_or}
+use Rattle.std.specs.Prelude.{ℕ, zero, suc, ◌+◌, ◌-◌, ◌*◌, ◌/◌, ◌%◌, ◌≤◌, ◌<◌, max, ◌≡◌, Bool, true, false, List, length, get_or, refl}
 use Rattle.std.proofs.Common.{arith, ap, sym, subst, ◌∙◌, ⊎_elim, ne_eqb}
 use Rattle.std.proofs.lemmas.Bool.{eqb-false}
-use Rattle.std.specs.Int.Bits.{bit_or, or_step, or_add_and}
-use Rattle.std.proofs.lemmas.Nat.{and_le_l, and_le_r}
+use Rattle.std.specs.Int.Bits.{bit_or, or_step}
+use Rattle.std.specs.List.{fold, between}
+use mir.Val.{bool_byte}
+use Rattle.std.proofs.lemmas.List.Edits.{length-between, get_or-between}
 use Rattle.shape.specs.Choice.{order}
 use Rattle.shape.specs.Sizes.{detectors_of}
 use Rattle.shape.specs.Counting.{quotient, rest}
@@ -11,6 +13,7 @@ use Rattle.window.specs.Lists.{over, by_place, any, bit}
 use Rattle.window.specs.LawsLists.{over-next, over-all, any-not}
 use Rattle.flat.specs.Codes.{defect_of, correction_of}
 use Rattle.flat.specs.Stored.{stored}
+use Rattle.flat.specs.Together.{fold-through}
 use Rattle.leave.specs.Leaving.{detector_in}
 
 -- entries stored behind those by a rule go on with it
@@ -45,25 +48,12 @@ module _ (b d : ℕ) (nodes old : List ℕ) where
       let f : to ≡ detectors_of h d = t ∙ ap (λ (k : ℕ). k * (d - 1)) e in
       n ∙ ap (λ (k : ℕ). over k escapes old) f ∙ over-all escapes (detectors_of h d) old (omega arith)
 
--- TESTS OF A PART
-
-module _ (f : ℕ → Bool) where
-  pub any-done : (i n : ℕ) (now : Bool) → now ≡ any i f → i ≤ n → n ≤ i → now ≡ any n f
-  any-done i n now p a b = let e : i ≡ n = omega arith in p ∙ ap (λ (k : ℕ). any k f) e
+-- a test as a byte
+pub bit-byte : (b : Bool) → bool_byte b ≡ bit b
+bit-byte true = refl
+bit-byte false = refl
 
 -- BITS TOGETHER
-
--- an answer that tells nothing
-pub none_told : {A : Type 0} → false ≡ true → A
-none_told e = let v : ◌≡◌ {A = ℕ} 0 1 = cc in absurd (omega arith)
-
-pub or-least : (a b : ℕ) → (a ≤ bit_or a b) × (b ≤ bit_or a b)
-or-least a b = let o = or_add_and a b in let p = and_le_l a b in let q = and_le_r a b in (omega (arith, o, p, q), omega (arith, o, p, q))
-
-pub bits-next : (l : List ℕ) (at i bits : ℕ) → ((j : ℕ) → j < i → get_or l (at + j) 0 ≤ bits) → (j : ℕ) → j < i + 1 → get_or l (at + j) 0 ≤ bit_or bits (get_or l (at + i) 0)
-bits-next l at i bits v j h =
-    let o = or-least bits (get_or l (at + i) 0) in
-    ⊎_elim (λ y. omega (arith, v j y, o.0)) (λ y. let k : i ≡ j = omega arith in subst (λ (x : ℕ). get_or l (at + x) 0 ≤ bit_or bits (get_or l (at + i) 0)) k o.1) (order j i)
 
 -- numbers below 4 have no bit of a correction
 pub small-blank : (l : List ℕ) (at n m bits : ℕ) → n ≤ m → ((j : ℕ) → j < m → get_or l (at + j) 0 ≤ bits) → bits < 4 → any n (λ j. correction_of (get_or l (at + j) 0)) ≡ false
@@ -83,3 +73,26 @@ pub quiet_next : (l : List ℕ) (at i bits : ℕ) → (defect_of bits ≡ false 
 quiet_next l at i bits v e j h =
     let o = no-defects bits (get_or l (at + i) 0) e in
     ⊎_elim (v o.0 j) (λ y. let k : i ≡ j = omega arith in subst (λ (x : ℕ). defect_of (get_or l (at + x) 0) ≡ false) k o.1) (order j i)
+
+-- a test by entries that agree
+any-same : (n : ℕ) (f g : ℕ → Bool) → ((i : ℕ) → i < n → f i ≡ g i) → any n f ≡ any n g
+unfolding any
+any-same zero f g e = refl
+any-same (suc n) f g e = rw (any-same n f g (λ i h. e i (omega arith)), e n (omega arith))
+
+-- of a part of a list, by all its bits
+module _ (l : List ℕ) (at end : ℕ) (fits : end ≤ length l) where
+  pub quiet-most : defect_of (fold bit_or 0 (between at end l)) ≡ false → (i : ℕ) → at + i < end → defect_of (get_or l (at + i) 0) ≡ false
+  quiet-most e i h =
+      let long = length-between l at end fits in
+      fold-through bit_or 0 (between at end l) (λ n b. defect_of b ≡ false → (j : ℕ) → j < n → defect_of (get_or l (at + j) 0) ≡ false)
+      (λ n b y v. subst (λ (x : ℕ). defect_of (bit_or b x) ≡ false → (j : ℕ) → j < n + 1 → defect_of (get_or l (at + j) 0) ≡ false) (sym (get_or-between l at end n 0 (omega arith))) (quiet_next l at n b v))
+      (λ y j z. absurd (omega arith))
+      e i (omega arith)
+
+  -- a test of its entries
+  pub any-part : (f : ℕ → Bool) (n : ℕ) → at + n ≡ end → any (length (between at end l)) (λ i. f (get_or (between at end l) i 0)) ≡ any n (λ i. f (get_or l (at + i) 0))
+  any-part f n e =
+      let long : length (between at end l) ≡ n = omega (arith, length-between l at end fits) in
+      ap (λ (k : ℕ). any k (λ i. f (get_or (between at end l) i 0))) long
+      ∙ any-same n (λ i. f (get_or (between at end l) i 0)) (λ i. f (get_or l (at + i) 0)) (λ i h. ap f (get_or-between l at end i 0 (omega arith)))

@@ -1,43 +1,25 @@
 -- `leave::escape_row` meets its contract: the bytes passed are by the rule. Assumes nothing.
-use mathlib.Core.Path.{◌≡◌, ◌∙◌, ap}
-use Prim.Native.Nat.{ℕ, ◌+◌}
-use native.Mathlib.Omega.{arith}
-use lib.ListN.{length, get_or}
-use mathlib.Core.List.{List}
+use Rattle.std.proofs.Common.{arith, ◌≡◌, ap, ◌∙◌, ◌+◌, ◌-◌, ◌<◌, length, get_or}
+use Rattle.std.proofs.lemmas.List.Edits.{length-between}
+use Rattle.std.proofs.Common.{below_more, get_or-set_other, get_or-set_same, ◌≢◌}
 use Rattle.window.specs.Lists.{bit}
 use Rattle.flat.specs.Codes.{defect_of}
-use Rattle.flat.specs.Stored.{stored, stored-none, stored_next, stored-done, length-stored}
+use Rattle.flat.specs.LawsStored.{stored-part}
+use Rattle.leave.specs.LawsLeaving.{bit-byte}
 use Rattle.leave.proofs.escape_row.Goals as goal
 
-long : (at to i : ℕ) (nodes old out : List ℕ) → out ≡ stored to (λ j. bit (defect_of (get_or nodes (at + j) 0))) i old → length out ≡ length old
-long at to i nodes old out e = ap length e ∙ length-stored to (λ j. bit (defect_of (get_or nodes (at + j) 0))) i old
-
-pub loop-i-init : goal.loop-i-init
-loop-i-init c = (omega arith, stored-none _ _ _)
-
-pub overflow_add-at : goal.overflow_add-at
-overflow_add-at c = omega arith
-
-pub bounds-nodes-at : goal.bounds-nodes-at
-bounds-nodes-at c = omega arith
-
-pub overflow_add-out : goal.overflow_add-out
-overflow_add-out c = let p = c.requires in let g = c.well_formed in omega (arith, c.loop-i-test.true)
-
-pub bounds-out-to : goal.bounds-out-to
-bounds-out-to c = let l = c.loop-i in let e = long c.args.at c.args.to l.i c.args.nodes.now c.args.out.now l.out l.invariant.1 in let p = c.requires in omega (arith, c.loop-i-test.true)
-
-pub overflow_add-i : goal.overflow_add-i
-overflow_add-i c = omega arith
-
-pub loop-i-smaller : goal.loop-i-smaller
-loop-i-smaller c = omega arith
-
 pub loop-i-preserved : goal.loop-i-preserved
-loop-i-preserved c = let l = c.loop-i in (omega arith, stored_next _ _ _ _ _ _ l.invariant.1 c.defect_bit.ensures)
-
-pub shape_of-out : goal.shape_of-out
-shape_of-out c = let l = c.loop-i in ap length l.invariant.1 ∙ length-stored _ _ _ _
+loop-i-preserved c =
+    let e = c.from.ensures ∙ bit-byte c.defect.result ∙ ap bit c.defect.ensures in
+    below_more _ _
+    (λ k h. let ne : k ≢ c.loop-i.i = omega arith in rw get_or-set_other (c.loop-i.invariant k h))
+    (let lt : c.loop-i.i < length c.loop-i.byte-items = omega (arith, c.loop-i.auto.byte-items, c.loop-i-test.true) in rw get_or-set_same e)
 
 pub returns : goal.returns
-returns c = let l = c.loop-i in stored-done _ _ _ _ _ _ l.invariant.1 l.invariant.0 c.loop-i-test.false
+returns c =
+    let a = c.args in
+    let m : a.to + a.n - a.to ≡ a.n = omega arith in
+    let long = length-between a.out.now a.to (a.to + a.n) (omega arith) in
+    stored-part a.to (λ i. bit (defect_of (get_or a.nodes.now (a.at + i) 0))) 0 a.out.now c.loop-i.byte-items a.n _
+    (c.loop-i.auto.byte-items ∙ long ∙ m) m (omega arith)
+    (λ i h. c.loop-i.invariant i (omega (arith, c.loop-i-test.false, long, h)))
