@@ -1,7 +1,7 @@
 // A round on the flat machine's arrays: one set moves into the other, one sheet lower.
 #![tactic(auto)]
 
-ghost use Rattle.std.specs.Prelude.{◌≡◌, ◌+◌, ◌-◌, ◌≤◌, true, ◌&&◌, nat_le, nat_lt, slice_index};
+ghost use Rattle.std.specs.Prelude.{◌≡◌, ◌+◌, ◌-◌, ◌≤◌, true, ◌&&◌, nat_le, nat_lt, slice_index, get_or, length};
 ghost use Rattle.shape.specs.Choice.{if};
 ghost use Rattle.shape.specs.Sizes.{in_range};
 ghost use Rattle.flat.specs.Stored.{stored};
@@ -47,10 +47,7 @@ fn settle(v: u8) -> u8
 fn by_sides(m: u16, t: Thresholds) -> u16
     ensures { result ≡ if (nat_lt m t.boundary) t.sides 0 }
 {
-    if m < t.boundary {
-        return t.sides;
-    }
-    0
+    if m < t.boundary { t.sides } else { 0 }
 }
 
 // A number below `detectors` wraps, and is past all of them.
@@ -58,10 +55,11 @@ fn by_inner(m: u16, t: Thresholds) -> u16
     requires { Ordered t }
     ensures { result ≡ if (nat_le t.detectors m && nat_lt m t.end) t.inner 0 }
 {
-    if std::num::wrapping_sub_u16(m, t.detectors) < t.end - t.detectors {
-        return t.inner;
+    if m.wrapping_sub(t.detectors) < t.end - t.detectors {
+        t.inner
+    } else {
+        0
     }
-    0
 }
 
 // A number one sheet lower, by a sum with no branch.
@@ -80,17 +78,25 @@ fn staying(z: Sizes) -> usize
     z.nodes - z.sheet
 }
 
+// The entries of the nodes that stay, one sheet lower, each by a rule.
+fn sink<T: Copy, F: Fn(T) -> T>(z: Sizes, old: &[T], new: &mut [T], rule: F)
+    requires sheet_le_nodes { (z.sheet ≤ z.nodes) × (z.nodes ≤ 3600) }
+    requires lens { (512 + z.nodes ≤ length old.now) × (512 + z.nodes ≤ length new.old) }
+    requires callable { F.IsAlwaysCallable rule }
+    ensures { (f : T → T) → ((v r : T) → F.post rule v r → r ≡ f v) → (d : T) → new.new ≡ stored (512 + z.sheet) (λ i. f (get_or old.now (512 + i) d)) (z.nodes - z.sheet) new.old }
+{
+    let down = MARGIN + z.sheet;
+    let rest = staying(z);
+    for (i, entry) in new[down..down + rest].iter_mut().enumerate() {
+        *entry = rule(old[MARGIN + i]);
+    }
+}
+
 pub fn sink_nodes(z: Sizes, old: &[u8; PLANE], nodes: &mut [u8; PLANE])
     requires { (z.sheet ≤ z.nodes) × (z.nodes ≤ 3600) }
     ensures { nodes.new ≡ stored (512 + z.sheet) (λ i. settled (slice_index old.now (512 + i))) (z.nodes - z.sheet) nodes.old }
 {
-    let down = MARGIN + z.sheet;
-    let rest = staying(z);
-    let mut i: usize = 0;
-    while i < rest {
-        nodes[down + i] = settle(old[MARGIN + i]);
-        i += 1;
-    }
+    sink(z, old, nodes, settle);
 }
 
 pub fn sink_marks(z: Sizes, t: Thresholds, old: &[u16; PLANE], marks: &mut [u16; PLANE])
@@ -98,13 +104,7 @@ pub fn sink_marks(z: Sizes, t: Thresholds, old: &[u16; PLANE], marks: &mut [u16;
     requires ordered { Ordered t }
     ensures { marks.new ≡ stored (512 + z.sheet) (λ i. lowered_by t (slice_index old.now (512 + i))) (z.nodes - z.sheet) marks.old }
 {
-    let down = MARGIN + z.sheet;
-    let rest = staying(z);
-    let mut i: usize = 0;
-    while i < rest {
-        marks[down + i] = lower(old[MARGIN + i], t);
-        i += 1;
-    }
+    sink(z, old, marks, |m| lower(m, t));
 }
 
 // The edges of one kind.
@@ -115,9 +115,5 @@ pub fn sink_edges(first: usize, z: Sizes, old: &[u8; PLANES], edges: &mut [u8; P
     let at = first + MARGIN;
     let down = at + z.sheet;
     let rest = staying(z);
-    let mut i: usize = 0;
-    while i < rest {
-        edges[down + i] = old[at + i];
-        i += 1;
-    }
+    edges[down..down + rest].copy_from_slice(&old[at..at + rest]);
 }

@@ -1,37 +1,6 @@
--- `sinking::sink_nodes` meets its contract: the entries passed are settled. Assumes nothing.
-use Rattle.std.proofs.Common.{arith}
-use Rattle.flat.specs.Stored.{stored-none, stored_next, stored-done}
+-- `sinking::sink_nodes` meets its contract. Assumes nothing.
+use Rattle.sinking.specs.Sunk.{settled}
 use Rattle.sinking.proofs.sink_nodes.Goals as goal
 
-pub overflow_add-down : goal.overflow_add-down
-overflow_add-down c = omega arith
-
-pub staying-rest-requires : goal.staying-rest-requires
-staying-rest-requires c = omega arith
-
-pub loop-i-init : goal.loop-i-init
-loop-i-init c = (omega arith, stored-none _ _ _)
-
-pub overflow_add-i : goal.overflow_add-i
-overflow_add-i c = omega arith
-
-pub bounds-old-i : goal.bounds-old-i
-bounds-old-i c = omega arith
-
-pub overflow_add-nodes : goal.overflow_add-nodes
-overflow_add-nodes c = omega arith
-
-pub bounds-nodes-down : goal.bounds-nodes-down
-bounds-nodes-down c = omega arith
-
-pub overflow_add-i-in-loop-i : goal.overflow_add-i-in-loop-i
-overflow_add-i-in-loop-i c = omega arith
-
-pub loop-i-smaller : goal.loop-i-smaller
-loop-i-smaller c = omega arith
-
-pub loop-i-preserved : goal.loop-i-preserved
-loop-i-preserved c = let l = c.loop-i in (omega arith, stored_next _ _ _ _ _ _ l.invariant.1 c.settle.ensures)
-
 pub returns : goal.returns
-returns c = let l = c.loop-i in stored-done _ _ _ _ _ _ l.invariant.1 (omega arith) (omega arith)
+returns c = c.sink.ensures settled (λ v r e. e) 0
