@@ -9,7 +9,7 @@ use Rattle.shape.specs.Sizes.{in_range, sheets_of, nodes_of}
 use Rattle.steps.specs.Steps.{Table, namer, slot_in}
 use Rattle.steps.specs.Suited.{Suited}
 use Rattle.window.specs.Formed.{is_empty}
-use Rattle.window.specs.Window.{size, sheet, present, place, to}
+use Rattle.window.specs.Window.{size, present, place, to}
 use Rattle.window.specs.declared.Window.{Window}
 use Rattle.closure.specs.Closure.{Kept}
 use Rattle.closure.specs.Edges.{edge}
