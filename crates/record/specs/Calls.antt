@@ -1,33 +1,27 @@
 -- What the calls on streams answer and leave, in the documents' numbers. Assumes nothing.
-use Rattle.std.specs.Prelude.{ℕ, Bool, List, [], ◌∷◌, ◌++◌, leb, eqb, length}
-use Rattle.refusal.specs.Answer.{Answer, done, ended, turned, unless, and_then, value_or}
+use Rattle.std.specs.Prelude.{ℕ, Bool, List, [], ◌∷◌, ◌++◌, leb, eqb, length, Option, Some, None, Result as ResultOf, Ok, Err}
+use Rattle.refusal.specs.Answer.{Answer, done, ended, turned, unless, and_then, value_or, reading}
+use Rattle.refusal.specs.declared.Refusal.{Refusal}
 use Rattle.refusal.specs.Writing.{Buffered, writing}
 use Rattle.list.specs.Sheet.{listed, are_bits, read_into}
 use Rattle.shape.specs.Sizes.{shape_tests, detectors_of, layer_edges_of}
 use Rattle.shape.specs.declared.Shape.{Shape}
 use Rattle.record.specs.Records.{header, round_at, Result, result_edges, result_escapes, result, result_at}
-use Rattle.record.specs.declared.HeaderRead.{HeaderRead}
-use Rattle.record.specs.declared.HeaderRead.TheVariants as header_read
-use Rattle.record.specs.declared.RoundRead.{RoundRead}
-use Rattle.record.specs.declared.RoundRead.TheVariants as round_read
-use Rattle.record.specs.declared.ResultRead.{ResultRead}
-use Rattle.record.specs.declared.ResultRead.TheVariants as result_read
 
--- THE ANSWERS
+-- THE ANSWERS: a header, and a round of the input or of the result, which may not be there
 
-abbrev pub header_answer : HeaderRead → Answer Shape
-header_answer (header_read.Shape sh next) = done sh next
-header_answer (header_read.Refused f) = turned f
+abbrev pub header_answer : ResultOf (Shape × ℕ) Refusal → Answer Shape
+header_answer = reading
 
-abbrev pub round_answer : RoundRead → Answer (Unit {0})
-round_answer (round_read.To next) = done tt next
-round_answer round_read.End = ended
-round_answer (round_read.Refused f) = turned f
+abbrev pub round_answer : ResultOf (Option ℕ) Refusal → Answer (Unit {0})
+round_answer (Ok (Some next)) = done tt next
+round_answer (Ok None) = ended
+round_answer (Err f) = turned f
 
-abbrev pub result_answer : ResultRead → Answer ℕ
-result_answer (result_read.Steps steps next) = done steps next
-result_answer result_read.End = ended
-result_answer (result_read.Refused f) = turned f
+abbrev pub result_answer : ResultOf (Option (ℕ × ℕ)) Refusal → Answer ℕ
+result_answer (Ok (Some r)) = done r.0 r.1
+result_answer (Ok None) = ended
+result_answer (Err f) = turned f
 
 -- THE TESTS, in the documents' order
 

@@ -1,6 +1,7 @@
 -- A record that is put at a buffer's front in parts, one after another. Assumes nothing.
 use Rattle.std.specs.Prelude.{ℕ, ◌+◌, ◌-◌, ◌≤◌, ◌≡◌, refl, List, [], ◌++◌, Option, Some, length, take, drop}
-use Rattle.std.proofs.Common.{arith, sym, ◌∙◌, ap, subst, append-nil, length-append, length-drop, drop_at, length-take-le, drop-drop}
+use Rattle.std.specs.Option.{IsSome}
+use Rattle.std.proofs.Common.{rules, arith, sym, ◌∙◌, ap, subst, append-nil, length-append, length-drop, drop_at, length-take-le, drop-drop}
 use Rattle.std.proofs.Math.Seq.{take-append_seam}
 use Rattle.refusal.specs.Writing.{Put, put_to, front}
 use Rattle.refusal.specs.Filling.{filled, filled-part, filled-all, drop-part, length-filled, front_fits}
@@ -70,6 +71,9 @@ parts_first bytes old part rest count last e h put =
     }
 
 -- what has room was put
+pub is-some : {count : Option ℕ} (n : ℕ) → count ≡ Some n → IsSome count
+is-some n e = rw e (search rules)
+
 pub front-some : (old bytes : List ℕ) (count : Option ℕ) (last : List ℕ) → length bytes ≤ length old → put_to count last ≡ front old bytes → count ≡ Some (length bytes)
 front-some old bytes count last h put = ap (λ (p : Put). p.count) (put ∙ front_fits old bytes h)
 
@@ -106,3 +110,50 @@ pub parts_last : (bytes old out : List ℕ) (i : ℕ) (part : List ℕ) (count :
     → put_to (Some count) last ≡ front (tail out i) part → Parts bytes old (put_back out i last) (i + count) []
 parts_last bytes old out i part count last p put =
     parts_more bytes old out i part [] count last (subst (λ (l : List ℕ). Parts bytes old out i l) (sym (append-nil part)) p) put
+
+pub last-some : (bytes old out : List ℕ) (i : ℕ) (part : List ℕ) (count : Option ℕ) (last : List ℕ) → Parts bytes old out i part
+    → put_to count last ≡ front (tail out i) part → count ≡ Some (length part)
+last-some bytes old out i part count last p put =
+    part-some bytes old out i part [] count last (subst (λ (l : List ℕ). Parts bytes old out i l) (sym (append-nil part)) p) put
+
+-- THREE PARTS, each with its count
+
+abbrev pub counted : {count : Option ℕ} {last : List ℕ} {p : Put} (n : ℕ) → count ≡ Some n → put_to count last ≡ p → put_to (Some n) last ≡ p
+counted {last = last} n k e = ap (λ (o : Option ℕ). put_to o last) (sym k) ∙ e
+
+module _ (bytes old one two three : List ℕ) (e : bytes ≡ one ++ (two ++ three)) (h : length bytes ≤ length old)
+    (r : Option ℕ) (out : List ℕ) (put : put_to r out ≡ front old one) where
+  pub three-one : r ≡ Some (length one)
+  three-one = front-some old one r out (omega (arith, h, ap length e ∙ length-append one (two ++ three))) put
+
+  module _ (i : ℕ) (k : r ≡ Some i) where
+    begun : Parts bytes old out i (two ++ three)
+    begun = parts_first bytes old one (two ++ three) i out e h (counted i k put)
+
+    pub three-inside : i ≤ length out
+    three-inside = parts-inside begun
+
+    module _ (r₂ : Option ℕ) (out₂ : List ℕ) (put₂ : put_to r₂ out₂ ≡ front (tail out i) two) where
+      pub three-two : r₂ ≡ Some (length two)
+      three-two = part-some bytes old out i two three r₂ out₂ begun put₂
+
+      module _ (j : ℕ) (k₂ : r₂ ≡ Some j) where
+        further : Parts bytes old (put_back out i out₂) (i + j) three
+        further = parts_more bytes old out i two three j out₂ begun (counted j k₂ put₂)
+
+        pub three-next : (i + j ≤ length (put_back out i out₂)) × (i + j ≤ length old)
+        three-next = (parts-inside further, omega (arith, further.within, further.room))
+
+        module _ (r₃ : Option ℕ) (out₃ : List ℕ) (put₃ : put_to r₃ out₃ ≡ front (tail (put_back out i out₂) (i + j)) three) where
+          pub three-last : r₃ ≡ Some (length three)
+          three-last = last-some bytes old (put_back out i out₂) (i + j) three r₃ out₃ further put₃
+
+          module _ (n : ℕ) (k₃ : r₃ ≡ Some n) where
+            all : Parts bytes old (put_back (put_back out i out₂) (i + j) out₃) (i + j + n) []
+            all = parts_last bytes old (put_back out i out₂) (i + j) three n out₃ further (counted n k₃ put₃)
+
+            pub three-within : i + j + n ≤ length old
+            three-within = omega (arith, all.within, all.room)
+
+            pub three-done : put_to (Some (i + j + n)) (put_back (put_back out i out₂) (i + j) out₃) ≡ front old bytes
+            three-done = parts-end bytes old (put_back (put_back out i out₂) (i + j) out₃) (i + j + n) all

@@ -1,9 +1,9 @@
 -- `list_writer::put_measured` meets its contract: the count and the skips so far stand in the buffer, and the skips to come are left. Assumes nothing.
-use Rattle.std.proofs.Common.{rules, ◌≡◌, sym, ◌∙◌, ap, subst, ℕ, ◌≤◌, ◌<◌, ◌-◌, ◌+◌, List, ◌++◌, length, length-append, drop, Option, Some, None, drop_of_length-le, arith}
+use Rattle.std.proofs.Common.{rules, ◌≡◌, ◌∙◌, ap, subst, ℕ, ◌≤◌, ◌<◌, ◌-◌, ◌+◌, List, ◌++◌, length, length-append, drop, Option, Some, None, drop_of_length-le, arith}
 use Rattle.std.specs.Option.{IsSome}
 use Rattle.refusal.specs.Writing.{put_to, front}
 use Rattle.refusal.specs.Tails.{tail, put_back}
-use Rattle.refusal.specs.Parts.{Parts, parts-inside, parts-end, parts_first, parts_more, front-some, part-some}
+use Rattle.refusal.specs.Parts.{Parts, parts-inside, parts-end, parts_first, parts_more, is-some, front-some, part-some, counted as with-count}
 use Rattle.number.specs.Number.{written}
 use Rattle.list.specs.Sheet.{ones, skips, listed}
 use Rattle.list.specs.Laws.{listed-is, ones-nil}
@@ -11,9 +11,6 @@ use Rattle.list_writer.specs.Gaps.{Found, Next}
 use Rattle.list_writer.specs.Laws.{skips-none, found-ones, found-skips}
 use Rattle.list_writer.proofs.put_measured.Invariants.{Writing}
 use Rattle.list_writer.proofs.put_measured.Goals as goal
-
-is-some : {o : Option ℕ} (n : ℕ) → o ≡ Some n → IsSome o
-is-some n e = rw e (search rules)
 
 -- the count is the first part
 module _ (entries old : List ℕ) (n : ℕ) (r : Option ℕ) (last : List ℕ) (e : n ≡ ones entries) (h : length (listed entries) ≤ length old)
@@ -26,7 +23,7 @@ module _ (entries old : List ℕ) (n : ℕ) (r : Option ℕ) (last : List ℕ) (
 
   first : (count : ℕ) → r ≡ Some count → Parts (listed entries) old last count (skips 0 entries)
   first count k =
-      parts_first (listed entries) old (written (ones entries)) (skips 0 entries) count last (listed-is entries) h (ap (λ (o : Option ℕ). put_to o last) (sym k) ∙ by-count)
+      parts_first (listed entries) old (written (ones entries)) (skips 0 entries) count last (listed-is entries) h (with-count count k by-count)
 
 module _ (entries old out : List ℕ) (i put from : ℕ) (w : Writing entries old out i put from) where
   -- an entry is left
@@ -45,7 +42,7 @@ module _ (entries old out : List ℕ) (i put from : ℕ) (w : Writing entries ol
     turn : (count : ℕ) → r ≡ Some count → Writing entries old (put_back out i last) (i + count) (put + 1) (place + 1)
     turn count k = (
       parts_more (listed entries) old out i (written (place - from)) (skips 0 (drop (place + 1) entries)) count last parted
-          (ap (λ (o : Option ℕ). put_to o last) (sym k) ∙ wrote),
+          (with-count count k wrote),
       omega (arith, w.1, found-ones entries from place f h),
       omega (arith, h),
     )
