@@ -61,12 +61,11 @@ fn gather_turns(
 }
 
 // They are laid down.
-fn lay_turns(made: usize, edges: &mut [u8; PLANES], words: &[u32; PLANE])
-    requires made_bound { made ≤ 4608 }
-    requires by_index { (j : ℕ) → j < made → edge_in (get_or words.now j 0) < 27648 }
-    ensures { edges.new ≡ laid (λ j. edge_in (get_or words.now j 0)) (λ j. number_in (get_or words.now j 0)) made edges.old }
+fn lay_turns(turns: &[u32], edges: &mut [u8; PLANES])
+    requires by_index { (j : ℕ) → j < length turns.now → edge_in (list_of turns.now j) < 27648 }
+    ensures { edges.new ≡ laid (λ j. edge_in (list_of turns.now j)) (λ j. number_in (list_of turns.now j)) (length turns.now) edges.old }
 {
-    for &w in &words[..made] {
+    for &w in turns {
         edges[(w / 256) as usize] = (w % 256) as u8;
     }
 }
@@ -84,6 +83,6 @@ pub fn flips(
     ensures flipped { Flipped (plan_in layout.now) (state_of nodes.now [] edges.old) (length listed.now) (list_of listed.now) result edges.new }
 {
     let made = gather_turns(layout, listed, nodes, edges, words);
-    lay_turns(made, edges, words);
+    lay_turns(&words[..made], edges);
     0 < made
 }
