@@ -10,9 +10,5 @@ use flat::{PLANE, TABLE};
 pub fn own_marks(marks: &mut [u16; PLANE], table: &[u16; TABLE])
     ensures { marks.new ≡ stored 0 (λ i. get_or table.now i 0) 4608 marks.old }
 {
-    let mut i: usize = 0;
-    while i < PLANE {
-        marks[i] = table[i];
-        i += 1;
-    }
+    marks.copy_from_slice(&table[..PLANE]);
 }
