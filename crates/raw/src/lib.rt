@@ -18,10 +18,8 @@ fn differences(sheet: &[bool; MAX_DETECTORS], bytes: &[u8], defects: &mut [u8])
     requires defects_len { length defects.old ≡ length bytes.now }
     ensures { defects.new ≡ differences_of sheet.now bytes.now }
 {
-    let mut i: usize = 0;
-    while i < bytes.len() {
-        defects[i] = window::bit((bytes[i] == 1) ^ sheet[i]);
-        i += 1;
+    for (i, byte) in bytes.iter().enumerate() {
+        defects[i] = u8::from((*byte == 1) ^ sheet[i]);
     }
 }
 
@@ -31,10 +29,8 @@ fn sheet_of(bytes: &[u8]) -> [bool; MAX_DETECTORS]
     ensures { result ≡ as_sheet bytes.now }
 {
     let mut sheet = [false; MAX_DETECTORS];
-    let mut i: usize = 0;
-    while i < bytes.len() {
-        sheet[i] = bytes[i] == 1;
-        i += 1;
+    for (i, byte) in bytes.iter().enumerate() {
+        sheet[i] = *byte == 1;
     }
     sheet
 }
@@ -50,12 +46,11 @@ pub fn raw(w: Window, bytes: &[u8], edges: &mut [u8], escapes: &mut [u8]) -> Win
     ensures { as_round result edges.new escapes.new ≡ receiving_raw (of_model w.shape.model) w bytes.now }
 {
     let n = bytes.len();
-    // both sheets by a name: the old one is read, the new one is stored
-    let last = w.measured;
     let sheet = sheet_of(bytes);
     let mut defects = [0; MAX_DETECTORS];
-    differences(&last, bytes, &mut defects[..n]);
-    let mut v = machine::round(w, &defects[..n], edges, escapes);
-    v.measured = sheet;
-    v
+    differences(&w.measured, bytes, &mut defects[..n]);
+    Window {
+        measured: sheet,
+        ..machine::round(w, &defects[..n], edges, escapes)
+    }
 }

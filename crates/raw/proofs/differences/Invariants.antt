@@ -1,10 +1,8 @@
 -- `raw::differences` meets its contract: the places passed are by the rule. Assumes nothing.
-use Prim.Native.Nat.{ℕ, ◌≤◌, ◌-◌}
+use Prim.Native.Nat.{ℕ}
 use mathlib.Core.Path.{◌≡◌}
 use mathlib.Core.Bool.{Bool}
 use mathlib.Core.List.{List}
-use borrow.Author.Rules.{rules}
-use lib.ListN.{length}
 use Rattle.window.specs.Lists.{over, bit}
 use Rattle.window.specs.Measured as rules
 use Rattle.raw.proofs.differences.Given as goal
@@ -13,7 +11,4 @@ abbrev pub rule : List Bool → List ℕ → ℕ → ℕ
 rule sheet bytes i = bit (rules.differs sheet bytes i)
 
 abbrev pub invariant-loop-i : goal.invariant-loop-i
-invariant-loop-i l = (l.i ≤ length l.bytes) × (l.defects ≡ over l.i (rule l.sheet l.bytes) l.initial.defects)
-
-abbrev pub decreases-loop-i : goal.decreases-loop-i
-decreases-loop-i l = length l.bytes - l.i
+invariant-loop-i l = l.defects ≡ over l.i (rule l.sheet l.bytes) l.initial.defects

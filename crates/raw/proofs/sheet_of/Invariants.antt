@@ -1,9 +1,8 @@
 -- `raw::sheet_of` meets its contract: the bytes passed are in the sheet. Assumes nothing.
-use Prim.Native.Nat.{◌≤◌, ◌-◌}
 use mathlib.Core.Path.{◌≡◌}
 use mathlib.Core.Bool.{Bool, false}
 use mathlib.Core.List.{List}
-use lib.ListN.{length, replicate}
+use lib.ListN.{replicate}
 use Rattle.shape.specs.Sizes.{max_detectors}
 use Rattle.window.specs.Lists.{over}
 use Rattle.window.specs.Measured.{is_set}
@@ -13,7 +12,4 @@ abbrev pub empty : List Bool
 empty = replicate max_detectors false
 
 abbrev pub invariant-loop-i : goal.invariant-loop-i
-invariant-loop-i l = (l.i ≤ length l.bytes) × (l.sheet ≡ over l.i (is_set l.bytes) empty)
-
-abbrev pub decreases-loop-i : goal.decreases-loop-i
-decreases-loop-i l = length l.bytes - l.i
+invariant-loop-i l = l.sheet ≡ over l.i (is_set l.bytes) empty
