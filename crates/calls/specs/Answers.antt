@@ -1,6 +1,7 @@
 -- What the calls answer and leave, refused ones too. Assumes nothing.
-use Rattle.std.specs.Prelude.{ℕ, Bool, true, false, List}
+use Rattle.std.specs.Prelude.{ℕ, Bool, true, false, List, Result, Ok, Err}
 use Rattle.refusal.specs.Answer.{Answer, done, turned, and_then, without_value, value_or, itself}
+use Rattle.refusal.specs.declared.Refusal.{Refusal}
 use Rattle.steps.specs.Steps.{Table}
 use Rattle.window.specs.Window.{is_rest}
 use Rattle.window.specs.Calls.{Answered, given, Round, window_of, edges_of, escapes_of, round_call, raw_call, merging_call, run_call}
@@ -33,10 +34,10 @@ raw_leaves T w bytes edges escapes = round_left (raw_call T w bytes edges escape
 
 -- MERGING: the answer says whether the stage is rest
 
-abbrev pub merging_answer : Merged → Answer Bool
-merging_answer merged.Busy = done false 0
-merging_answer merged.Rest = done true 0
-merging_answer (merged.Refused f) = turned f
+abbrev pub merging_answer : Result Merged Refusal → Answer Bool
+merging_answer (Ok merged.Busy) = done false 0
+merging_answer (Ok merged.Rest) = done true 0
+merging_answer (Err f) = turned f
 
 abbrev pub merging_leaves : Table → Window → Answered Bool
 merging_leaves T w =
@@ -49,10 +50,10 @@ pub data Ended : Type 0 where
   rest : ℕ → Ended
   spent : ℕ → Ended
 
-abbrev pub run_answer : Outcome → Answer Ended
-run_answer (outcome.Rest n) = done (rest n) 0
-run_answer (outcome.Spent n) = done (spent n) 0
-run_answer (outcome.Refused f) = turned f
+abbrev pub run_answer : Result Outcome Refusal → Answer Ended
+run_answer (Ok (outcome.Rest n)) = done (rest n) 0
+run_answer (Ok (outcome.Spent n)) = done (spent n) 0
+run_answer (Err f) = turned f
 
 abbrev pub ended_by : Bool → ℕ → Ended
 ended_by true n = rest n

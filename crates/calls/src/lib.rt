@@ -7,137 +7,112 @@ ghost use Rattle.steps.specs.Models.{of_model};
 ghost use Rattle.window.specs.Calls.{call_answer, given, leaves, grow_call};
 ghost use Rattle.calls.specs.Answers.{round_returned, round_leaves, raw_leaves, merging_answer, merging_leaves, run_answer, run_leaves};
 
-use refusal::Refusal;
-use window::{Called, Given, Window};
+use window::{Given, Stage, Window};
 
 // How a merging step ended: some node was busy, or none was and the stage is rest.
-#[derive(Clone, Copy)]
+#[derive(Clone, Copy, PartialEq, Eq)]
 pub enum Merged {
     Busy,
     Rest,
-    Refused(Refusal),
-}
-
-#[derive(Clone, Copy)]
-pub struct MergingGiven {
-    pub answer: Merged,
-    pub window: Window,
 }
 
 // How a run ended: at rest, or with its budget spent; with the count of steps made.
-#[derive(Clone, Copy)]
+#[derive(Clone, Copy, PartialEq, Eq)]
 pub enum Outcome {
     Rest(u32),
     Spent(u32),
-    Refused(Refusal),
-}
-
-#[derive(Clone, Copy)]
-pub struct Concluded {
-    pub answer: Outcome,
-    pub window: Window,
 }
 
 // Receives a round of defects: the bottom layer's edges and defects go to the buffers, and all else moves down one sheet.
-pub fn round(w: Window, bytes: &[u8], edges: &mut [u8], escapes: &mut [u8]) -> Given
+#[tactic(auto, using(tested::proofs::Counted::counted), unfolding(window::specs::Calls::round_call))]
+pub fn round(w: Window, bytes: &[u8], edges: &mut [u8], escapes: &mut [u8]) -> Given<()>
     ensures { round_returned (call_answer result.answer) result.window edges.new escapes.new ≡ round_leaves (of_model w.shape.model) w bytes.now edges.old escapes.old }
 {
-    let tested = tested::test_round(w, bytes, edges.len(), escapes.len());
-    if let Called::Refused(f) = tested {
+    if let Err(f) = tested::test_round(w, bytes, edges.len(), escapes.len()) {
         return Given {
-            answer: Called::Refused(f),
+            answer: Err(f),
             window: w,
         };
     }
     Given {
-        answer: Called::Done,
+        answer: Ok(()),
         window: machine::round(w, bytes, edges, escapes),
     }
 }
 
+// stays: `round` again but for what receives the round; with that as a parameter, its five requirements would stand here, no plainer
 // Receives a round of raw measurements: its defects are the places that differ from the last measured sheet, which the bytes then replace.
-pub fn raw_round(w: Window, bytes: &[u8], edges: &mut [u8], escapes: &mut [u8]) -> Given
+#[tactic(auto, using(tested::proofs::Counted::counted), unfolding(window::specs::Calls::raw_call, window::specs::Measured::measuring))]
+pub fn raw_round(w: Window, bytes: &[u8], edges: &mut [u8], escapes: &mut [u8]) -> Given<()>
     ensures { round_returned (call_answer result.answer) result.window edges.new escapes.new ≡ raw_leaves (of_model w.shape.model) w bytes.now edges.old escapes.old }
 {
-    let tested = tested::test_round(w, bytes, edges.len(), escapes.len());
-    if let Called::Refused(f) = tested {
+    if let Err(f) = tested::test_round(w, bytes, edges.len(), escapes.len()) {
         return Given {
-            answer: Called::Refused(f),
+            answer: Err(f),
             window: w,
         };
     }
     Given {
-        answer: Called::Done,
+        answer: Ok(()),
         window: raw::raw(w, bytes, edges, escapes),
     }
 }
 
 // Grows every edge by its active ends.
-pub fn grow(w: Window) -> Given
+#[tactic(auto, unfolding(window::specs::Calls::grow_call))]
+pub fn grow(w: Window) -> Given<()>
     ensures { given (call_answer result.answer) result.window ≡ leaves (grow_call (of_model w.shape.model) w) itself w }
 {
-    let stage = w.stage;
-    let tested = tested::test_state(w, window::is_to_grow(stage));
-    if let Called::Refused(f) = tested {
+    if let Err(f) = tested::test_state(w, w.stage == Stage::ToGrow) {
         return Given {
-            answer: Called::Refused(f),
+            answer: Err(f),
             window: w,
         };
     }
     Given {
-        answer: Called::Done,
+        answer: Ok(()),
         window: machine::grow(w),
     }
 }
 
 // Makes one merging step: a run of one.
-pub fn merging(w: Window) -> MergingGiven
+#[tactic(auto, using(crate::proofs::Steps::steps), unfolding(window::specs::Calls::merging_call))]
+pub fn merging(w: Window) -> Given<Merged>
     ensures { given (merging_answer result.answer) result.window ≡ merging_leaves (of_model w.shape.model) w }
 {
-    let stage = w.stage;
-    let tested = tested::test_state(w, window::is_merging(stage));
-    if let Called::Refused(f) = tested {
-        return MergingGiven {
-            answer: Merged::Refused(f),
+    if let Err(f) = tested::test_state(w, w.stage == Stage::Merging) {
+        return Given {
+            answer: Err(f),
             window: w,
         };
     }
     let ran = machine::run(w, 1);
-    let window = ran.window;
-    if ran.rest {
-        return MergingGiven {
-            answer: Merged::Rest,
-            window,
-        };
-    }
-    MergingGiven {
-        answer: Merged::Busy,
-        window,
+    let merged = if ran.rest { Merged::Rest } else { Merged::Busy };
+    Given {
+        answer: Ok(merged),
+        window: ran.window,
     }
 }
 
 // Runs a window to rest, or through its budget of merging steps: it grows if that is due.
-pub fn run(w: Window, budget: u32) -> Concluded
+#[tactic(auto, unfolding(window::specs::Calls::run_call))]
+pub fn run(w: Window, budget: u32) -> Given<Outcome>
     ensures { given (run_answer result.answer) result.window ≡ run_leaves (of_model w.shape.model) w budget }
 {
-    let stage = w.stage;
-    let tested = tested::test_state(w, !window::is_rest(stage));
-    if let Called::Refused(f) = tested {
-        return Concluded {
-            answer: Outcome::Refused(f),
+    if let Err(f) = tested::test_state(w, w.stage != Stage::Rest) {
+        return Given {
+            answer: Err(f),
             window: w,
         };
     }
     let ran = machine::run(w, budget);
-    let window = ran.window;
-    if ran.rest {
-        return Concluded {
-            answer: Outcome::Rest(ran.count),
-            window,
-        };
-    }
-    Concluded {
-        answer: Outcome::Spent(ran.count),
-        window,
+    let outcome = if ran.rest {
+        Outcome::Rest(ran.count)
+    } else {
+        Outcome::Spent(ran.count)
+    };
+    Given {
+        answer: Ok(outcome),
+        window: ran.window,
     }
 }
