@@ -7,8 +7,6 @@ ghost use Rattle.list.specs.Sheet.{read_into};
 ghost use Rattle.record.specs.Calls.{round_answer};
 ghost use Rattle.next_round.specs.Next.{next_round};
 
-use list::Listed;
-use record::RoundRead;
 use refusal::Refusal;
 use window::MAX_NEXT;
 
@@ -21,24 +19,19 @@ pub fn next_round(
     size: usize,
     to: usize,
     bytes: &mut [u8],
-) -> RoundRead
+) -> Result<Option<usize>, Refusal>
     requires { bytes.old ≡ replicate (length bytes.old) 0 }
     ensures { buffered (round_answer result) bytes.new ≡ read_into (next_round src.now (length bytes.old) next at size to) bytes.new }
 {
-    if src.len() < at {
-        return RoundRead::Refused(Refusal::Offset);
+    if src.len() < at || size < to {
+        return Err(Refusal::Offset);
     }
-    if size < to {
-        return RoundRead::Refused(Refusal::Offset);
-    }
-    if src.len() <= at {
-        return RoundRead::End;
+    if src.len() == at {
+        return Ok(None);
     }
     if next == MAX_NEXT {
-        return RoundRead::Refused(Refusal::LastRound);
+        return Err(Refusal::LastRound);
     }
-    match list::take_list(src, at, bytes) {
-        Listed::To(behind) => RoundRead::To(behind),
-        Listed::Refused(f) => RoundRead::Refused(f),
-    }
+    let behind = list::take_list(src, at, bytes)?;
+    Ok(Some(behind))
 }
