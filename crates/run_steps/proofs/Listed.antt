@@ -5,7 +5,7 @@ use Rattle.window.specs.Lists.{any}
 use Rattle.flat.specs.Entries.{State}
 use Rattle.flat.specs.Plan.{Plan}
 use Rattle.flat.specs.Rule.{sender, busy_at}
-use Rattle.flat.specs.Step.{list_at, Places, sending, busy_in, Turned, Unturned, Passed}
+use Rattle.flat.specs.Step.{list_at, sending, busy_in, Turned, Unturned, Passed}
 use Rattle.merge_step.specs.Pass.{PassLeaves}
 use Rattle.shows.specs.Named.{named-same}
 
@@ -60,12 +60,6 @@ module _ (lists : List ℕ) (from count : ℕ) (low : from + count ≤ length li
 
   part-item : (i : ℕ) → i < count → item i ≡ list_at lists from i
   part-item i h = get_or-take (from + count - from) (drop from lists) i 0 (omega arith) ∙ get_or-drop from lists i 0
-
-  pub part_few : count ≤ 4608 → length part ≤ 4608
-  part_few h = rw part-long h
-
-  pub part_places : (n : ℕ) → Places n count (list_at lists from) → Places n (length part) item
-  part_places n p i h = let l : i < count = omega (arith, part-long) in rw (part-item i l) (p i l)
 
   pub part_leaves : (P : Plan) (st : State) (n : ℕ) (busy : Bool) (nodes marks edges words : List ℕ) → PassLeaves P st (length part) item n busy nodes marks edges words
       → PassLeaves P st count (list_at lists from) n busy nodes marks edges words
