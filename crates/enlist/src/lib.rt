@@ -1,7 +1,7 @@
 // What the first work list of a turn is made of: the nodes that were cut, with what lies over their open edges, and the new defects; or all nodes.
 #![tactic(auto)]
 
-ghost use Rattle.std.specs.Prelude.{◌≡◌, ◌||◌, true, false, ℕ, ◌+◌, ◌-◌, ◌≤◌, ◌<◌, eqb, fold, get_or};
+ghost use Rattle.std.specs.Prelude.{◌≡◌, true, ℕ, ◌+◌, ◌-◌, ◌≤◌, ◌<◌, eqb, get_or};
 ghost use Rattle.flat.specs.Codes.{defect_of, growth_of};
 ghost use Rattle.flat.specs.Entries.{within};
 ghost use Rattle.flat.specs.Step.{list_at, Places};
@@ -31,13 +31,6 @@ pub fn all_nodes(
         q = queue::push(MARGIN + i, 0, q, lists, queued);
     }
     q
-}
-
-// Some mark of a part is reset. All are looked at, so that this becomes vector code.
-fn any_reset(part: &[u16]) -> bool
-    ensures { result ≡ fold (λ b m. b || eqb m 65535) false part.now }
-{
-    part.iter().fold(false, |found, m| found | (*m == RESET))
 }
 
 // Nodes of a part that are marked reset, with what lies over their open edges.
@@ -83,7 +76,7 @@ pub fn push_cut(
 {
     let sheet = layout.sizes.sheet;
     let bottom = MARGIN + layout.sizes.nodes - sheet;
-    if !any_reset(&marks[bottom..bottom + sheet]) {
+    if !flat::any_of(&marks[bottom..bottom + sheet], |m| m == RESET) {
         return count;
     }
     push_reset(bottom, sheet, layout, count, marks, edges, lists, queued)

@@ -8,9 +8,11 @@ ghost use Rattle.flat.specs.Structs.{plan_in};
 
 mod arrays;
 mod layout;
+mod parts;
 
 pub use arrays::{Arrays, Work};
 pub use layout::Layout;
+pub use parts::any_of;
 
 // Before the nodes of a plane and behind them are margins, so that a neighbour is an entry plus a constant.
 pub const MARGIN: usize = 512;

@@ -1,9 +1,9 @@
 // Grow on the flat machine's arrays: the edges of active nodes gain halves, and bottom nodes whose pointer falls are cut.
 #![tactic(auto)]
 
-ghost use Rattle.std.specs.Prelude.{◌≡◌, ◌||◌, fold, true, false, not, ◌+◌, ◌-◌, ◌≤◌, ◌<◌, get_or, eqb, leb};
-ghost use Rattle.window.specs.Lists.{any, bit};
-ghost use Rattle.flat.specs.Codes.{active_of, growth_of};
+ghost use Rattle.std.specs.Prelude.{◌≡◌, true, false, ◌+◌, ◌-◌, ◌≤◌, ◌<◌, get_or, eqb};
+ghost use Rattle.window.specs.Lists.{bit};
+ghost use Rattle.flat.specs.Codes.{growth_of};
 ghost use Rattle.flat.specs.Entries.{within, over_by};
 ghost use Rattle.flat.specs.Plan.{plan_of};
 ghost use Rattle.flat.specs.Step.{active_at, Places};
@@ -18,13 +18,6 @@ use flat::{ACTIVE, FALLS, LISTS, Layout, MARGIN, PLANE, PLANES, RESET, Sizes, TA
 const PART_NODES: usize = 64;
 
 const STRIP_NODES: usize = 16;
-
-// No node of a part is active. All are looked at, so that this becomes vector code.
-fn is_idle(part: &[u8]) -> bool
-    ensures { result ≡ not (fold (λ b v. b || active_of v) false part.now) }
-{
-    !part.iter().fold(false, |found, v| found | flat::active(*v))
-}
 
 // The active nodes of a part, behind those that are listed.
 fn list_part(
@@ -57,7 +50,7 @@ pub fn list_active(z: Sizes, nodes: &[u8; PLANE], lists: &mut [u16; LISTS]) -> u
     let mut q: usize = 0;
     for first in (0..z.nodes).step_by(PART_NODES) {
         let at = MARGIN + first;
-        if !is_idle(&nodes[at..at + PART_NODES]) {
+        if flat::any_of(&nodes[at..at + PART_NODES], flat::active) {
             q = list_part(first, PART_NODES.min(z.nodes - first), q, nodes, lists);
         }
     }
@@ -138,13 +131,6 @@ pub fn grow_ways(
     q
 }
 
-// Every pointer of a strip is C. All are looked at, so that this becomes vector code.
-fn is_centred(strip: &[u8]) -> bool
-    ensures { result ≡ not (fold (λ b v. b || leb 8 v) false strip.now) }
-{
-    !strip.iter().fold(false, |found, v| found | (8 <= *v))
-}
-
 // Nodes of a strip whose pointer falls get pointer C and mark reset.
 fn cut_strip(
     at: usize,
@@ -177,7 +163,7 @@ pub fn cut(z: Sizes, nodes: &mut [u8; PLANE], marks: &mut [u16; PLANE], table: &
     let bottom = MARGIN + z.nodes - z.sheet;
     for i in (0..z.sheet).step_by(STRIP_NODES) {
         let at = bottom + i;
-        if !is_centred(&nodes[at..at + STRIP_NODES]) {
+        if flat::any_of(&nodes[at..at + STRIP_NODES], |v| 8 <= v) {
             cut_strip(at, STRIP_NODES.min(z.sheet - i), nodes, marks, table);
         }
     }
