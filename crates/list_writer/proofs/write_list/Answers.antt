@@ -1,9 +1,7 @@
 -- `list_writer::write_list` meets its contract: the tail of the buffer takes the list, or has no room for it. Assumes nothing.
 use Rattle.std.proofs.Common.{rules, ◌≡◌, sym, ◌∙◌, Bool, true, List, [], ◌∷◌, ℕ, ◌≤◌, length, leb, le-leb, arith, Err}
-use Rattle.std.proofs.lemmas.Bool.{lt-leb}
-use Rattle.refusal.specs.Tests.{Passes, pass-none, pass-one, turn-here, turn-later}
-use Rattle.refusal.specs.declared.Refusal.TheVariants.{Offset, Byte, Room}
-use Rattle.refusal.specs.Filling.{writing-turned}
+use Rattle.refusal.specs.Tests.{Passes, pass-none, pass-one}
+use Rattle.refusal.specs.declared.Refusal.TheVariants.{Room}
 use Rattle.refusal.specs.Tails.{put_none, put_some, wrote_none, wrote-inside, wrote-some}
 use Rattle.number.specs.Number.{in_slice}
 use Rattle.list.specs.Sheet.{listed, are_bits}
@@ -14,19 +12,6 @@ tests entries old at = in_slice old at ∷ (are_bits entries, 4) ∷ []
 
 passes : (entries old : List ℕ) (at : ℕ) → at ≤ length old → are_bits entries ≡ true → Passes (tests entries old at)
 passes entries old at h e = pass-one (leb at (length old)) 10 ((are_bits entries, 4) ∷ []) (le-leb at (length old) h) (pass-one (are_bits entries) 4 [] e pass-none)
-
-pub returns-then-out-at : goal.returns-then-out-at
-returns-then-out-at c =
-    let a = c.args in
-    writing-turned (tests a.entries.now a.out.now a.at) a.out.now a.at (listed a.entries.now) Offset
-    (turn-here (leb a.at (length a.out.now)) 10 ((are_bits a.entries.now, 4) ∷ []) (lt-leb a.at (length a.out.now) c.if-out-at.true))
-
-pub returns-then-not-are_bits : goal.returns-then-not-are_bits
-returns-then-not-are_bits c =
-    let a = c.args in
-    writing-turned (tests a.entries.now a.out.now a.at) a.out.now a.at (listed a.entries.now) Byte
-    (turn-later (leb a.at (length a.out.now)) 10 ((are_bits a.entries.now, 4) ∷ []) 4 (le-leb a.at (length a.out.now) c.if-out-at.false)
-    (turn-here (are_bits a.entries.now) 4 [] (sym c.are_bits.ensures ∙ c.if-not-are_bits.true)))
 
 pub returns-in_err-count : goal.returns-in_err-count
 returns-in_err-count c =

@@ -1,21 +1,13 @@
 -- `number::write_number` meets its contract: the tail of the buffer takes the number, or has no room for it. Assumes nothing.
 use Rattle.std.proofs.Common.{rules, ◌≡◌, ◌∙◌, sym, ℕ, ◌≤◌, List, [], ◌∷◌, length, leb, arith, le-leb, Err}
-use Rattle.std.proofs.lemmas.Bool.{lt-leb}
-use Rattle.refusal.specs.Tests.{Passes, pass-none, pass-one, turn-here}
-use Rattle.refusal.specs.declared.Refusal.TheVariants.{Offset, Room}
-use Rattle.refusal.specs.Filling.{writing-turned}
+use Rattle.refusal.specs.Tests.{Passes, pass-none, pass-one}
+use Rattle.refusal.specs.declared.Refusal.TheVariants.{Room}
 use Rattle.refusal.specs.Tails.{put_none, put_some, wrote_none, wrote-inside, wrote-some}
 use Rattle.number.specs.Number.{written, in_slice}
 use Rattle.number.proofs.write_number.Goals as goal
 
 passes : (old : List ℕ) (at : ℕ) → at ≤ length old → Passes (in_slice old at ∷ [])
 passes old at h = pass-one (leb at (length old)) 10 [] (le-leb at (length old) h) pass-none
-
-pub returns-then-out-at : goal.returns-then-out-at
-returns-then-out-at c =
-    let a = c.args in
-    writing-turned (in_slice a.out.now a.at ∷ []) a.out.now a.at (written a.n) Offset
-    (turn-here (leb a.at (length a.out.now)) 10 [] (lt-leb a.at (length a.out.now) c.if-out-at.true))
 
 pub returns-in_err-count : goal.returns-in_err-count
 returns-in_err-count c =
