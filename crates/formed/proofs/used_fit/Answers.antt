@@ -1,5 +1,5 @@
 -- `formed::used_fit` meets its contract. Assumes nothing.
-use Rattle.std.proofs.Common.{◌≡◌, refl, sym, ◌∙◌, arith, mul-le-mul, ℕ, Bool, true, false, ◌*◌, ◌≤◌, ◌<◌}
+use Rattle.std.proofs.Common.{◌≡◌, sym, ◌∙◌, arith, mul-le-mul, ℕ, Bool, ◌*◌, ◌≤◌, ◌<◌}
 use Rattle.shape.specs.Sizes.{max_nodes}
 use Rattle.shape.proofs.LawsIndex.{nodes-max}
 use Rattle.steps.specs.Models.{of_model}
