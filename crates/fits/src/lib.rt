@@ -48,8 +48,9 @@ pub fn is_fresh(own: u16, node: Node) -> bool
         & (node.mark == Mark::Root(own))
 }
 
-// A node, where so many sheets are there and pointers may lead to so many; an absent one keeps its fresh state.
-#[tactic(auto, unfolding(window::specs::Formed::node_fits))]
+// A node, where so many sheets are there and pointers may lead to so many; an absent one keeps its fresh state. Most point to C and have no defect: the
+// place is not asked for them.
+#[tactic(auto, unfolding(window::specs::Formed::node_fits, window::specs::Formed::pointer_fits))]
 pub fn node_fits(
     shape: Shape,
     stage: Stage,
@@ -68,8 +69,9 @@ pub fn node_fits(
         return is_fresh(walk::number(shape, place, g), node);
     }
     mark_fits(stage, marks, node.mark)
-        && pointer_fits(shape, led, place, node.pointer)
-        && !(extent::is_boundary(shape, place.column) & node.defect)
+        && ((node.pointer == 0) & !node.defect
+            || pointer_fits(shape, led, place, node.pointer)
+                && !(node.defect & extent::is_boundary(shape, place.column)))
 }
 
 // Growth is at most 2, and nothing stands in a slot without an edge: the slot of the edge of a kind that the node at a place names. Most slots are

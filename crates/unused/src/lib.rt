@@ -43,8 +43,7 @@ impl Entry for bool {
 pub fn rest_unused<E: Entry>(entries: &[E], n: usize) -> bool
     ensures { result ≡ all E.is_unused (drop n entries.now) }
 {
-    entries
-        .iter()
-        .skip(n)
+    let rest = &entries[n.min(entries.len())..];
+    rest.iter()
         .fold(true, |unused, entry| unused & entry.is_unused())
 }
