@@ -1,6 +1,6 @@
 -- A WINDOW'S EDGES from the machine's, kind by kind. Assumes nothing.
 use Prim.Native.Nat.{ℕ, zero, suc, ◌+◌, ◌*◌, ◌≤◌, ◌<◌}
-use Rattle.std.proofs.Common.{mul-le-mul, zero-add, mul-add, mul-one, mul_comm, sym, ◌∙◌, ap₂}
+use Rattle.std.proofs.Common.{mul-le-mul, zero-add, mul-add, mul-one, sym, ◌∙◌, ap₂}
 use native.Mathlib.Omega.{arith}
 use Rattle.std.specs.Prelude.{◌≡◌, Bool, false, List, get_or, replicate}
 use Rattle.std.proofs.Math.Path.{ap}
@@ -84,10 +84,6 @@ module _ {ℓ} {A : Type ℓ} (v : ℕ → A) (n kind : ℕ) (l : List A) where
 -- the slots of a kind fit
 pub slots-low : (n kind : ℕ) → n ≤ 3600 → kind < 6 → n * kind + n ≤ 21600
 slots-low n kind a b = let c : kind + 1 ≤ 6 = omega arith in let e = mul-add n kind 1 in let f = mul-one n in let g : n * (kind + 1) ≤ 21600 = mul-le-mul {n₂ = 3600} {m₂ = 6} a c in omega arith
-
--- all kinds
-pub kinds-are : (T : Table) (n kinds : ℕ) → kinds ≡ T.kinds → n * kinds ≡ T.kinds * n
-kinds-are T n kinds e = rw e (mul_comm n T.kinds)
 
 -- THE WINDOW
 

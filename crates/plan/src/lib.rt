@@ -42,7 +42,7 @@ pub fn sizes(shape: Shape) -> Sizes
         kinds: steps::kinds(shape.model) as usize,
         nodes: extent::nodes(shape),
         sheet: h * (shape.distance as usize + 1),
-        bound: extent::product(2 * h, extent::sheets(shape) + 1) as u16,
+        bound: (2 * h * (extent::sheets(shape) + 1)) as u16,
     }
 }
 

@@ -21,7 +21,7 @@ store-requires c = let t : c.loop-kind.kind < 6 = omega (arith, c.loop-kind-test
 
 pub store-requires-in-loop-kind : goal.store-requires-in-loop-kind
 store-requires-in-loop-kind c = let t : c.loop-kind.kind < 6 = omega (arith, c.loop-kind-test.true, c.kinds-kind-end.ensures, few-kinds c.args.model) in
-    let s = slots-low c.args.n c.loop-kind.kind c.requires t in (omega arith, (omega (arith, s), grind serving))
+    let s = slots-low c.args.n c.loop-kind.kind c.requires t in grind serving
 
 pub loop-kind-preserved : goal.loop-kind-preserved
 loop-kind-preserved c = let l = c.loop-kind in let a = c.args in

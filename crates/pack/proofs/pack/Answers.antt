@@ -13,7 +13,7 @@ use Rattle.pack.proofs.pack.Goals as goal
 
 pub store-requires : goal.store-requires
 store-requires c = let few = nodes-max c.args.shape.height c.args.shape.distance in
-    let low : c.nodes-n.result ≤ 3600 = omega (arith, few, c.nodes-n.ensures) in (omega arith, (omega (arith, low), grind serving))
+    let low : c.nodes-n.result ≤ 3600 = omega (arith, few, c.nodes-n.ensures) in grind serving
 
 pub returns : goal.returns
 returns c = let a = c.args in let s = a.arrays.now in

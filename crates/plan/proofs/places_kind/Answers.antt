@@ -1,5 +1,6 @@
 -- `plan::places_kind` meets its contract. Assumes nothing.
 use Rattle.std.proofs.Common.{rules}
+use Rattle.std.proofs.iter.Serving.{serving}
 use mathlib.Core.Path.{◌≡◌, refl}
 use mathlib.Core.Bool.{true}
 use Prim.Native.Nat.{ℕ, ◌+◌, ◌-◌, ◌*◌}
@@ -38,8 +39,7 @@ overflow_add-from c = let L = low c.args.shape c.args.kind _ _ _ c.requires.dist
 
 pub store-requires : goal.store-requires
 store-requires c = let L = low c.args.shape c.args.kind _ _ _ c.requires.distance_value c.of-area.ensures c.columns-n.ensures c.rows-m.ensures in
-    let from = L.rows c.loop-i.i c.loop-i.auto.i-end in
-    (omega arith, (omega (arith, L.edges c.loop-i.i c.loop-i-test.true, c.requires.kind_bound), λ i l. ((λ _ _ _ _ _. omega (arith, from, L.few, L.first, L.left-low, c.requires.kind_bound)), (λ _ _ _ _ _ _. omega (arith, from, L.few, L.first, L.left-low, c.requires.kind_bound)))))
+    let edges = L.edges c.loop-i.i c.loop-i-test.true in let from = L.rows c.loop-i.i c.loop-i.auto.i-end in let few = L.few in let first = L.first in let left = L.left-low in grind serving
 
 pub loop-i-preserved : goal.loop-i-preserved
 loop-i-preserved c = let l = c.loop-i in let n = c.columns-n.result in let w = c.args.shape.distance + 1 in

@@ -1,15 +1,15 @@
 -- `unpack::unpack` meets its contract. Assumes nothing.
 use Rattle.std.proofs.Common.{rules}
+use Rattle.std.proofs.iter.Serving.{serving}
 use Rattle.std.proofs.lemmas.List.{length-replicate}
 use mathlib.Core.Path.{◌≡◌, refl, ◌∙◌, ap, subst, sym}
 use Prim.Native.Nat.{ℕ, ◌<◌}
-use native.Mathlib.Omega.{arith}
 use lib.ListN.{length}
 use Rattle.shape.specs.declared.Shape.{Shape}
 use Rattle.steps.specs.Models.{of_model}
 use Rattle.steps.proofs.Models.{suited-model}
 use Rattle.window.specs.declared.Window.{Window}
-use Rattle.window.specs.Window.{size}
+use Rattle.window.specs.Window.{at}
 use Rattle.closure.specs.Facts.{facts}
 use Rattle.flat.specs.declared.Sizes.{Sizes}
 use Rattle.plan.specs.Filled.{Filled}
@@ -29,17 +29,10 @@ sizes w l e = subst (λ (s : Shape). l.layout.sizes ≡ sizes_of (of_model s.mod
 pub store-requires : goal.store-requires
 store-requires c = let w = c.args.w.now in let l = c.args.laid.now in let T = of_model w.shape.model in let room = roomy-model w.shape.model in
     let few = l.layout.safe.nodes in
-    let inside : (i : ℕ) → i < l.layout.sizes.nodes → i < size w = λ i p. subst (λ (k : ℕ). i < k) (ap (λ (z : Sizes). z.nodes) (sizes w l c.requires.shape_value)) p in (
-      omega arith,
-      (
-        omega (arith, few),
-        λ i p. (
-          (λ _ _ _ _. omega (arith, few)),
-          (λ _ _ _ _ _. omega (arith, few)),
-          (λ _ _ _ _ _ _ _. pointer-low T (suited-model w.shape.model) w (facts T w c.requires.w_value) l.layout.table (filled w l c.requires.shape_value) room.kinds room.dirs i (inside i p)),
-        ),
-      ),
-    )
+    let low : (i : ℕ) → i < l.layout.sizes.nodes → (at w i).pointer < 32 = λ i p.
+    pointer-low T (suited-model w.shape.model) w (facts T w c.requires.w_value) l.layout.table (filled w l c.requires.shape_value) room.kinds room.dirs i
+    (subst (λ (k : ℕ). i < k) (ap (λ (z : Sizes). z.nodes) (sizes w l c.requires.shape_value)) p) in
+    grind serving
 
 pub edges_kinds-requires : goal.edges_kinds-requires
 edges_kinds-requires c = let w = c.args.w.now in let l = c.args.laid.now in let T = of_model w.shape.model in let e = c.requires.shape_value in
