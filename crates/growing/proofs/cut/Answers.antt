@@ -28,7 +28,7 @@ strip_passed c m p =
           )
       | else-any_of w ↦
           let rest : (j : ℕ) → j < m → leb 8 (get_or l.nodes (b + l.i + j) 0) ≡ false
-          = λ j h. none-passes (leb 8) (b + l.i) 16 l.nodes (omega arith) (sym (c.any_of.ensures (leb 8) (λ v b p. search rules)) ∙ w.if-any_of.false) j (omega arith) in
+          = λ j h. none-passes (leb 8) (b + l.i) (b + l.i + 16) l.nodes (omega arith) (sym (c.any_of.ensures (leb 8) (λ v b p. search rules)) ∙ w.if-any_of.false) j (omega arith) in
           rw (w.nodes-is, w.marks-is) (
             strips-node f a.nodes.now a.marks.now b l.i m l.nodes l.marks l.nodes l.marks nodes (centred-node f c.requires.table_value (b + l.i) m l.nodes l.marks rest),
             strips-mark f a.nodes.now a.marks.now b l.i m l.nodes l.marks l.nodes l.marks nodes marks (centred-mark f c.requires.table_value (b + l.i) m l.nodes l.marks rest),

@@ -18,7 +18,7 @@ part_passed c m p =
           let f : w.min.result ≡ m = w.min.ensures ∙ p in
           rw (w.q-is, w.lists-is) (rw f at (actives-on _ _ _ _ _ A _ _ _ w.list_part-q.ensures))
       | else-any_of w ↦
-          rw (w.q-is, w.lists-is) (actives-idle l.first c.args.nodes.now l.q c.args.lists.now l.lists A m (λ i h. none-passes active_of (512 + l.first) 64 c.args.nodes.now (omega arith) (sym (c.any_of.ensures active_of (λ v b p. search rules)) ∙ w.if-any_of.false) i (omega arith)))
+          rw (w.q-is, w.lists-is) (actives-idle l.first c.args.nodes.now l.q c.args.lists.now l.lists A m (λ i h. none-passes active_of (512 + l.first) (512 + l.first + 64) c.args.nodes.now (omega arith) (sym (c.any_of.ensures active_of (λ v b p. search rules)) ∙ w.if-any_of.false) i (omega arith)))
     ]
 
 pub loop-first-preserved : goal.loop-first-preserved
