@@ -1,26 +1,13 @@
 // The extent of a shape: its sizes, and where its nodes stand and what their numbers are, computed.
 #![tactic(auto)]
 
-ghost use Rattle.std.specs.Prelude.{◌≡◌, ◌-◌, ◌^◌, ◌≤◌};
-ghost use Rattle.shape.specs.Sizes.{height_ok, distance_ok, model_ok, in_range, shape_of, shape_fine, shape_answer, tested_answer, sheets_of, boundary, detectors_of, plain_edges, diagonal_edges, layer_edges_of, nodes_in, nodes_of};
-ghost use Rattle.shape.specs.Nodes.{side as side_of, number_of, index_of};
+ghost use Rattle.std.specs.Prelude.{◌≡◌, ◌^◌, ◌≤◌};
+ghost use Rattle.shape.specs.Sizes.{height_ok, distance_ok, model_ok, in_range, shape_of, shape_fine, shape_answer, tested_answer, sheets_of, boundary, detectors_of, plain_edges, diagonal_edges, layer_edges_of, nodes_of};
+ghost use Rattle.shape.specs.Nodes.{number_of, index_of};
 ghost use Rattle.shape.specs.Limits.{Factors, Product};
 
 use refusal::Refusal;
 use shape::{MAX_DISTANCE, MAX_HEIGHT, Place, Shape};
-
-// A byte as a count.
-pub fn wide(x: u8) -> usize
-    ensures { result ≡ x }
-{
-    x as usize
-}
-
-pub fn less_one(x: u8) -> usize
-    ensures { result ≡ x - 1 }
-{
-    (x as usize).saturating_sub(1)
-}
 
 // A product of small numbers, with a bound that sums can go by.
 pub fn product(a: usize, b: usize) -> usize
@@ -139,15 +126,7 @@ pub fn nodes(shape: Shape) -> usize
     if !ranged(shape) {
         return 0;
     }
-    nodes_in(shape, sheets(shape))
-}
-
-// The nodes of k sheets.
-fn nodes_in(shape: Shape, k: usize) -> usize
-    requires { k ≤ 2 ^ 10 }
-    ensures { result ≡ nodes_in shape.height shape.distance k }
-{
-    shape.height as usize * (shape.distance as usize + 1) * k
+    shape.height as usize * (shape.distance as usize + 1) * sheets(shape)
 }
 
 // A place in the internal order.

@@ -1,14 +1,13 @@
 // The test that a window is well-formed.
 #![tactic(auto)]
 
-ghost use Rattle.std.specs.Prelude.{◌≡◌, ◌&&◌, ◌*◌};
-ghost use Rattle.shape.specs.Sizes.{model_ok, nodes_of};
+ghost use Rattle.std.specs.Prelude.{◌≡◌, ◌&&◌};
 ghost use Rattle.steps.specs.Models.{of_model};
 ghost use Rattle.window.specs.Lists.{every};
 ghost use Rattle.window.specs.Window.{size};
 ghost use Rattle.window.specs.Formed.{node_fits_at, slot_fits_at, well_formed};
 
-use shape::{Place, Shape};
+use shape::Place;
 use window::Window;
 
 // Every node and every slot of the window.
