@@ -1,7 +1,7 @@
 -- Laws of answers. Assumes nothing.
-use Rattle.std.specs.Prelude.{ℕ, ◌≡◌, refl, true, false}
+use Rattle.std.specs.Prelude.{ℕ, ◌≡◌, refl, true, false, Result, Ok, Err}
 use Rattle.std.proofs.Common.{sym, ◌∙◌, ap, arith}
-use Rattle.refusal.specs.Answer.{Answer, done, ended, refused, refused_at, Code, plain, placed, code_of, by_code, turned, status, and_then, is_done, without_value, next_or, value_or}
+use Rattle.refusal.specs.Answer.{Answer, done, ended, refused, refused_at, Code, plain, placed, code_of, by_code, turned, status, and_then, is_done, without_value, next_or, value_or, to_offset}
 use Rattle.refusal.specs.declared.Refusal.{Refusal}
 
 -- what holds of both kinds of number holds of every refusal
@@ -108,3 +108,8 @@ done-is (done v next) e = (v, next, refl)
 done-is ended e = absurd (undone (sym e))
 done-is (refused n) e = absurd (undone (sym e))
 done-is (refused_at n at) e = absurd (undone (sym e))
+
+-- what ends at an offset is Ok
+pub to-ok : (r : Result ℕ Refusal) (next : ℕ) → to_offset r ≡ done tt next → r ≡ Ok next
+to-ok (Ok n) next e = let k : n ≡ next = cc in ap (λ (m : ℕ). Ok m) k
+to-ok (Err f) next e = absurd (undone (sym (ap (λ (x : Answer (Unit {0})). is_done x) e) ∙ turned-not (Unit {0}) f))
