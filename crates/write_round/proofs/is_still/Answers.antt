@@ -1,21 +1,13 @@
 -- `write_round::is_still` meets its contract. Assumes nothing.
-use Prim.Native.Nat.{◌-◌}
-use native.Mathlib.Omega.{arith}
 use Rattle.write_round.specs.Left.{blank_of, quiet_of}
-use Rattle.write_round.specs.LawsLeft.{after_none, after_next, after-done}
+use Rattle.write_round.specs.LawsLeft.{after_none, after_next}
 use Rattle.write_round.proofs.is_still.Goals as goal
 
 pub loop-kind-init : goal.loop-kind-init
-loop-kind-init c = (omega arith, after_none _ _ _ c.is_quiet-none.ensures)
+loop-kind-init c = after_none _ _ _ c.is_quiet-none.ensures
 
 pub loop-kind-preserved : goal.loop-kind-preserved
 loop-kind-preserved c =
-    let l = c.loop-kind in
-    let a = c.args in
-    (omega arith, after_next (blank_of a.z a.edges.now) (quiet_of a.z a.nodes.now) l.kind l.none c.is_blank-none.result l.invariant.1 c.is_blank-none.ensures)
-
-pub returns : goal.returns
-returns c =
-    let l = c.loop-kind in
-    let a = c.args in
-    after-done (blank_of a.z a.edges.now) (quiet_of a.z a.nodes.now) _ _ _ l.invariant.1 l.invariant.0 c.loop-kind-test.false
+    let z = c.args.layout.now.sizes in
+    let a = c.args.arrays.now in
+    after_next (blank_of z a.edges) (quiet_of z a.nodes) c.loop-kind.kind c.loop-kind.none _ c.loop-kind.invariant c.is_blank-none.ensures

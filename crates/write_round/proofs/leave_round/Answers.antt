@@ -1,8 +1,13 @@
 -- `write_round::leave_round` meets its contract. Assumes nothing.
-use mathlib.Core.Path.{refl, ◌∙◌}
+use Rattle.std.proofs.Common.{refl, ◌∙◌}
 use Rattle.write_round.specs.LawsLeft.{committed-is, escaped-is}
 use Rattle.write_round.proofs.leave_round.Goals as goal
 
 pub returns : goal.returns
 returns c =
-    let a = c.args in record { out_edges_after = λ w e marks H. c.leave_bits.ensures.out_edges_after ∙ committed-is a.shape.model _ _ c.requires.distance_value a.z c.requires.z_value a.table.now c.requires.filled a.nodes.now a.edges.now a.shape refl refl w e marks H; out_escapes_after = λ w e marks H. c.leave_bits.ensures.out_escapes_after ∙ escaped-is a.shape.model _ _ c.requires.distance_value a.z c.requires.z_value a.table.now c.requires.filled a.nodes.now a.edges.now a.shape refl refl w e marks H }
+    let l = c.args.laid.now in
+    let a = c.args.arrays.now in
+    let s = l.shape in record {
+      out_edges_after = λ w e marks H. c.leave_bits.ensures.out_edges_after ∙ committed-is s.model _ _ l.range.sizes l.layout.sizes l.sizes l.layout.table l.filled a.nodes a.edges s refl refl w e marks H;
+      out_escapes_after = λ w e marks H. c.leave_bits.ensures.out_escapes_after ∙ escaped-is s.model _ _ l.range.sizes l.layout.sizes l.sizes l.layout.table l.filled a.nodes a.edges s refl refl w e marks H;
+    }
