@@ -1,5 +1,5 @@
 -- Laws of what leaves: a row of bytes stored behind those by the rule, and tests of a part one by one and by all their bits together. Assumes nothing.
-use Rattle.std.specs.Prelude.{ℕ, zero, suc, ◌+◌, ◌-◌, ◌*◌, ◌/◌, ◌%◌, ◌≤◌, ◌<◌, max, ◌≡◌, Bool, true, false, List, length, get_or, refl}
+use Rattle.std.specs.Prelude.{ℕ, zero, suc, ◌+◌, ◌-◌, ◌*◌, ◌/◌, ◌%◌, ◌≤◌, ◌<◌, max, ◌≡◌, ◌||◌, Bool, true, false, List, length, get_or, refl}
 use Rattle.std.proofs.Common.{arith, ap, sym, subst, ◌∙◌, ⊎_elim, ne_eqb}
 use Rattle.std.proofs.lemmas.Bool.{eqb-false}
 use Rattle.std.specs.Int.Bits.{bit_or, or_step}
@@ -10,7 +10,7 @@ use Rattle.shape.specs.Choice.{order}
 use Rattle.shape.specs.Sizes.{detectors_of}
 use Rattle.shape.specs.Counting.{quotient, rest}
 use Rattle.window.specs.Lists.{over, by_place, any, bit}
-use Rattle.window.specs.LawsLists.{over-next, over-all, any-not}
+use Rattle.window.specs.LawsLists.{over-next, over-all, any-not, any_none, any_next}
 use Rattle.flat.specs.Codes.{defect_of, correction_of}
 use Rattle.flat.specs.Stored.{stored}
 use Rattle.flat.specs.Together.{fold-through}
@@ -74,12 +74,6 @@ quiet_next l at i bits v e j h =
     let o = no-defects bits (get_or l (at + i) 0) e in
     ⊎_elim (v o.0 j) (λ y. let k : i ≡ j = omega arith in subst (λ (x : ℕ). defect_of (get_or l (at + x) 0) ≡ false) k o.1) (order j i)
 
--- a test by entries that agree
-any-same : (n : ℕ) (f g : ℕ → Bool) → ((i : ℕ) → i < n → f i ≡ g i) → any n f ≡ any n g
-unfolding any
-any-same zero f g e = refl
-any-same (suc n) f g e = rw (any-same n f g (λ i h. e i (omega arith)), e n (omega arith))
-
 -- of a part of a list, by all its bits
 module _ (l : List ℕ) (at end : ℕ) (fits : end ≤ length l) where
   pub quiet-most : defect_of (fold bit_or 0 (between at end l)) ≡ false → (i : ℕ) → at + i < end → defect_of (get_or l (at + i) 0) ≡ false
@@ -91,8 +85,11 @@ module _ (l : List ℕ) (at end : ℕ) (fits : end ≤ length l) where
       e i (omega arith)
 
   -- a test of its entries
-  pub any-part : (f : ℕ → Bool) (n : ℕ) → at + n ≡ end → any (length (between at end l)) (λ i. f (get_or (between at end l) i 0)) ≡ any n (λ i. f (get_or l (at + i) 0))
+  pub any-part : (f : ℕ → Bool) (n : ℕ) → at + n ≡ end → fold (λ b v. b || f v) false (between at end l) ≡ any n (λ i. f (get_or l (at + i) 0))
   any-part f n e =
+      let g : ℕ → Bool = λ i. f (get_or l (at + i) 0) in
       let long : length (between at end l) ≡ n = omega (arith, length-between l at end fits) in
-      ap (λ (k : ℕ). any k (λ i. f (get_or (between at end l) i 0))) long
-      ∙ any-same n (λ i. f (get_or (between at end l) i 0)) (λ i. f (get_or l (at + i) 0)) (λ i h. ap f (get_or-between l at end i 0 (omega arith)))
+      fold-through (λ b v. b || f v) false (between at end l) (λ i b. b ≡ any i g)
+      (λ i b y v. any_next g i b (f (get_or (between at end l) i 0)) v (ap f (get_or-between l at end i 0 (omega arith))))
+      (sym (any_none g))
+      ∙ ap (λ (k : ℕ). any k g) long

@@ -2,7 +2,7 @@
 #![tactic(auto)]
 
 ghost use Rattle.std.specs.List.{fold};
-ghost use Rattle.std.specs.Prelude.{Bool, bit_or, ◌≡◌, true, false, not, ℕ, ◌+◌, ◌-◌, ◌≤◌, ◌<◌, length, get_or};
+ghost use Rattle.std.specs.Prelude.{bit_or, ◌≡◌, true, false, not, ℕ, ◌+◌, ◌-◌, ◌≤◌, ◌<◌, length, get_or};
 ghost use Rattle.shape.specs.Sizes.{in_range, detectors_of};
 ghost use Rattle.window.specs.Lists.{any, bit};
 ghost use Rattle.flat.specs.Codes.{defect_of, correction_of};
@@ -60,18 +60,6 @@ fn bits_of(entries: &[u8]) -> u8
     entries.iter().fold(0, |bits, v| bits | *v)
 }
 
-// Some entry passes the test.
-fn any_of<F: Fn(u8) -> bool>(entries: &[u8], test: F) -> bool
-    requires { F.IsAlwaysCallable test }
-    ensures { (f : ℕ → Bool) → ((v : ℕ) (b : Bool) → F.post test v b → b ≡ f v) → result ≡ any (length entries.now) (λ i. f (get_or entries.now i 0)) }
-{
-    let mut found = false;
-    for v in entries {
-        found |= test(*v);
-    }
-    found
-}
-
 // The bits of a part's entries together, with those of all entries as far as the stretch goes: every bit where the stretch does not fit.
 fn bits_on(at: usize, n: usize, entries: &[u8]) -> u8
     requires { at + n ≤ length entries.now }
@@ -89,7 +77,7 @@ pub fn is_blank(at: usize, n: usize, edges: &[u8; PLANES]) -> bool
     requires { at + n ≤ 27648 }
     ensures { result ≡ not (any n (λ i. correction_of (get_or edges.now (at + i) 0))) }
 {
-    bits_on(at, n, edges) < 4 || !any_of(&edges[at..at + n], flat::corrected)
+    bits_on(at, n, edges) < 4 || !flat::any_of(&edges[at..at + n], flat::corrected)
 }
 
 // No node of a part has a defect.
@@ -97,5 +85,5 @@ pub fn is_quiet(at: usize, n: usize, nodes: &[u8; PLANE]) -> bool
     requires { at + n ≤ 4608 }
     ensures { result ≡ not (any n (λ i. defect_of (get_or nodes.now (at + i) 0))) }
 {
-    !flat::defect(bits_on(at, n, nodes)) || !any_of(&nodes[at..at + n], flat::defect)
+    !flat::defect(bits_on(at, n, nodes)) || !flat::any_of(&nodes[at..at + n], flat::defect)
 }

@@ -36,9 +36,6 @@ module _ (d : ℕ) (bytes : List ℕ) where
   unfolding put_from
   put_next from i l now next p q = q ∙ ap (λ (m : List ℕ). put_one d (from + i) (get_or bytes (from + i) 0) m) p ∙ rw (add-one i)
 
-  pub put-done : (from i n : ℕ) (l now : List ℕ) → now ≡ put_from d bytes from i l → i ≤ n → n ≤ i → now ≡ put_from d bytes from n l
-  put-done from i n l now p a b = let e : i ≡ n = omega arith in p ∙ ap (λ (k : ℕ). put_from d bytes from k l) e
-
   -- bytes that are 0 put nothing
   pub put-blank : (from n : ℕ) (l : List ℕ) → ((i : ℕ) → i < n → get_or bytes (from + i) 0 ≡ 0) → put_from d bytes from n l ≡ l
   unfolding put_from

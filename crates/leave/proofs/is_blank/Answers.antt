@@ -1,5 +1,5 @@
 -- `leave::is_blank` meets its contract: the stretch tells, or each entry. Assumes nothing.
-use Rattle.std.proofs.Common.{arith, ap, sym, ◌∙◌, ◌+◌, not}
+use Rattle.std.proofs.Common.{rules, arith, ap, sym, ◌∙◌, ◌+◌, not}
 use borrow.Author.Tests.{lt-ltb}
 use Rattle.flat.specs.Codes.{correction_of}
 use Rattle.leave.specs.LawsLeaving.{small-blank, any-part}
@@ -11,4 +11,4 @@ returns-then-bits_on-lt4 c = lt-ltb _ _ c.if-bits_on-lt4.true ∙ sym (ap not (s
 pub returns-else-bits_on-lt4 : goal.returns-else-bits_on-lt4
 returns-else-bits_on-lt4 c =
     let a = c.args in
-    ap not (c.any_of.ensures correction_of (λ v b e. e) ∙ any-part a.edges.now a.at (a.at + a.n) (omega arith) correction_of a.n (omega arith))
+    ap not (c.any_of.ensures correction_of (λ v b e. search rules) ∙ any-part a.edges.now a.at (a.at + a.n) (omega arith) correction_of a.n (omega arith))

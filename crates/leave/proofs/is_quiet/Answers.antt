@@ -1,5 +1,5 @@
 -- `leave::is_quiet` meets its contract: the stretch tells, or each entry. Assumes nothing.
-use Rattle.std.proofs.Common.{arith, ap, sym, ◌∙◌, ◌+◌, get_or, not}
+use Rattle.std.proofs.Common.{rules, arith, ap, sym, ◌∙◌, ◌+◌, get_or, not}
 use Rattle.flat.specs.Codes.{defect_of}
 use Rattle.window.specs.LawsLists.{any-not}
 use Rattle.leave.specs.LawsLeaving.{any-part}
@@ -11,4 +11,4 @@ returns-then-not-defect c = ap not (c.if-not-defect.true ∙ sym (any-not (λ i.
 pub returns-else-not-defect : goal.returns-else-not-defect
 returns-else-not-defect c =
     let a = c.args in
-    ap not (c.any_of.ensures defect_of (λ v b e. e) ∙ any-part a.nodes.now a.at (a.at + a.n) (omega arith) defect_of a.n (omega arith))
+    ap not (c.any_of.ensures defect_of (λ v b e. search rules) ∙ any-part a.nodes.now a.at (a.at + a.n) (omega arith) defect_of a.n (omega arith))
