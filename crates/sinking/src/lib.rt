@@ -44,30 +44,18 @@ fn settle(v: u8) -> u8
     v % 4 + 8 * (v / 8)
 }
 
-fn by_sides(m: u16, t: Thresholds) -> u16
-    ensures { result ≡ if (nat_lt m t.boundary) t.sides 0 }
-{
-    if m < t.boundary { t.sides } else { 0 }
-}
-
-// A number below `detectors` wraps, and is past all of them.
-fn by_inner(m: u16, t: Thresholds) -> u16
-    requires { Ordered t }
-    ensures { result ≡ if (nat_le t.detectors m && nat_lt m t.end) t.inner 0 }
-{
-    if m.wrapping_sub(t.detectors) < t.end - t.detectors {
-        t.inner
-    } else {
-        0
-    }
-}
-
-// A number one sheet lower, by a sum with no branch.
+// A number one sheet lower, by a sum with no branch. One below `detectors` wraps, and is past all of them.
 fn lower(m: u16, t: Thresholds) -> u16
     requires { Ordered t }
     ensures { result ≡ lowered_by t m }
 {
-    m + (by_sides(m, t) + by_inner(m, t))
+    let sides = if m < t.boundary { t.sides } else { 0 };
+    let inner = if m.wrapping_sub(t.detectors) < t.end - t.detectors {
+        t.inner
+    } else {
+        0
+    };
+    m + (sides + inner)
 }
 
 // How many nodes stay in the window: those of the bottom sheet leave, and behind the nodes there is no edge.
