@@ -14,9 +14,7 @@ use Rattle.trip.specs.Fits.{RoundFits, RecordFits}
 use Rattle.trip.specs.Header.{HeaderWrites, header-writes}
 use Rattle.trip.specs.Trip.{Kind, on_more, on_record, records-steps, on_records, on_header, stream-steps}
 use Rattle.trip.proofs.RoundKinds.{round-kind, result-kind}
-use Rattle.scan.specs.Scanned.{Scanned, scanned, counted, counted_from, passed_by, counted_by, scanned_by}
-use Rattle.scan.specs.declared.Round.{Round}
-use Rattle.scan.specs.declared.Round.TheVariants as round
+use Rattle.scan.specs.Scanned.{Round, InputRound, ResultRound, Scanned, scanned, counted, counted_from, passed_by, counted_by, scanned_by}
 
 -- a record that is passed: the count goes on behind it
 pub record CountsOn (from : List ℕ → Shape → ℕ → ℕ → Answer Scanned) (s : List ℕ) (sh : Shape) (at next n : ℕ) : Type 0 where
@@ -144,5 +142,5 @@ counts_of_lem read write fits kind = record {
 }
 
 pub counts : (k : Round) → Counts (passed_by k) (counted_by k) (scanned_by k)
-counts round.Input = counts_of_lem round_of listed RoundFits round-kind
-counts round.Result = counts_of_lem result_of result RecordFits result-kind
+counts InputRound = counts_of_lem round_of listed RoundFits round-kind
+counts ResultRound = counts_of_lem result_of result RecordFits result-kind

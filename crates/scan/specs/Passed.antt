@@ -8,10 +8,8 @@ use Rattle.list.specs.Sheet.{read_into}
 use Rattle.shape.proofs.Ranges.{halves}
 use Rattle.shape.specs.Sizes.{IsShape, height_ok, distance_ok}
 use Rattle.shape.specs.declared.Shape.{Shape}
-use Rattle.record.specs.Calls.{round_answer, result_answer, place_tests, defects_test, edges_test, escapes_test, read_round, read_result, ResultBuffered, result_buffered, read_into_both, steps_of}
+use Rattle.record.specs.Calls.{place_tests, defects_test, edges_test, escapes_test, read_round, read_result, ResultBuffered, result_buffered, read_into_both, steps_of}
 use Rattle.record.specs.Records.{Result}
-use Rattle.record.specs.declared.ResultRead.{ResultRead}
-use Rattle.record.specs.declared.RoundRead.{RoundRead}
 use Rattle.trip.specs.Fits.{detectors_in, edges_in}
 use Rattle.trip.specs.Streams.{round_of, result_of}
 
@@ -27,8 +25,8 @@ module _ (s : List ℕ) (sh : Shape) (at : ℕ) (range : IsShape sh) (inside : a
       let p = halves (height_ok sh.height) (distance_ok sh.distance) range.sizes in
       rw (p.0, p.1, range.model, le-leb at (length s) inside, eq-eqb (length old) (detectors_in sh) size) refl
 
-  pub round-passed : (r : RoundRead) (old new : List ℕ) → length old ≡ detectors_in sh → buffered (round_answer r) new ≡ read_round sh s at old
-      → round_answer r ≡ without_value (round_of s sh at)
+  pub round-passed : (r : Answer (Unit {0})) (old new : List ℕ) → length old ≡ detectors_in sh → buffered r new ≡ read_round sh s at old
+      → r ≡ without_value (round_of s sh at)
   round-passed r old new size e =
       ap (λ (x : Buffered). x.answer) (e ∙ ap (λ (a : Answer (List ℕ)). read_into a old) (round-passes old size (List ℕ) (round_of s sh at)))
 
@@ -38,9 +36,9 @@ module _ (s : List ℕ) (sh : Shape) (at : ℕ) (range : IsShape sh) (inside : a
       let p = halves (height_ok sh.height) (distance_ok sh.distance) range.sizes in
       rw (p.0, p.1, range.model, le-leb at (length s) inside, eq-eqb (length edges) (edges_in sh) few, eq-eqb (length escapes) (detectors_in sh) size) refl
 
-  pub result-passed : (r : ResultRead) (edges escapes edges' escapes' : List ℕ) → length edges ≡ edges_in sh → length escapes ≡ detectors_in sh
-      → result_buffered (result_answer r) edges' escapes' ≡ read_result sh s at edges escapes
-      → without_value (result_answer r) ≡ without_value (result_of s sh at)
+  pub result-passed : (r : Answer ℕ) (edges escapes edges' escapes' : List ℕ) → length edges ≡ edges_in sh → length escapes ≡ detectors_in sh
+      → result_buffered r edges' escapes' ≡ read_result sh s at edges escapes
+      → without_value r ≡ without_value (result_of s sh at)
   result-passed r edges escapes edges' escapes' few size e =
       ap (λ (x : ResultBuffered). without_value x.answer) (e ∙ ap (λ (a : Answer Result). read_into_both a edges escapes) (result-passes edges escapes few size Result (result_of s sh at)))
       ∙ steps-passed (result_of s sh at)
