@@ -13,6 +13,7 @@ pub struct Shift {
 }
 
 // A step of the scan order: its shifts, the pointer of the step back, the kind of its edge, and whether the node that it leaves names the edge.
+// stays: pointers and kinds are numbers, since places in a table and slots count by them (`step`, `slot_in` in specs/Steps.antt).
 #[derive(Clone, Copy, PartialEq, Eq)]
 pub struct Step {
     pub row: Shift,
