@@ -4,18 +4,9 @@
 ghost use Rattle.std.specs.Prelude.{◌≡◌, ◌^◌, ◌≤◌};
 ghost use Rattle.shape.specs.Sizes.{height_ok, distance_ok, model_ok, in_range, shape_of, shape_fine, shape_answer, tested_answer, sheets_of, boundary, detectors_of, plain_edges, diagonal_edges, layer_edges_of, nodes_of};
 ghost use Rattle.shape.specs.Nodes.{number_of, index_of};
-ghost use Rattle.shape.specs.Limits.{Factors, Product};
 
 use refusal::Refusal;
 use shape::{MAX_DISTANCE, MAX_HEIGHT, Place, Shape};
-
-// A product of small numbers, with a bound that sums can go by.
-pub fn product(a: usize, b: usize) -> usize
-    requires { Factors a b }
-    ensures { Product a b result }
-{
-    a * b
-}
 
 pub fn height_ok(h: u32) -> bool
     ensures { result ≡ height_ok h }
