@@ -133,6 +133,12 @@ module _ (bytes old one two three : List ℕ) (e : bytes ≡ one ++ (two ++ thre
     pub three-inside : i ≤ length out
     three-inside = parts-inside begun
 
+    -- the tail has room for the second part
+    pub three-room : length two ≤ length (tail out i)
+    three-room =
+        let long = length-take-le (length out - i) (drop i out) (omega (arith, length-drop i out)) in
+        omega (arith, long, parts-left begun, begun.room, parts-length begun, length-append two three)
+
     module _ (r₂ : Option ℕ) (out₂ : List ℕ) (put₂ : put_to r₂ out₂ ≡ front (tail out i) two) where
       pub three-two : r₂ ≡ Some (length two)
       three-two = part-some bytes old out i two three r₂ out₂ begun put₂

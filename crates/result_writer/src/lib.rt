@@ -10,13 +10,13 @@ ghost use Rattle.shape.specs.Sizes.{IsShape, detectors_of, layer_edges_of};
 ghost use Rattle.record.specs.Records.{result as result_of};
 ghost use Rattle.record.specs.Calls.{write_result, as_result};
 
-use list_writer::Measure;
-use number::Wrote;
+use list_writer::{Measure, measured, put_measured};
+use number::{number_len, put_number};
 use refusal::Refusal;
-use shape::{Shape, Tested};
+use shape::Shape;
 
-// Writes a round of the result, of two lists that were measured, at the front of a buffer and answers its bytes; 0, and nothing written,
-// where it has no room.
+// Writes a round of the result, of two lists that were measured, at the front of a buffer and answers its bytes; None, and nothing
+// written, where it has no room.
 fn put_result(
     edges: &[u8],
     first: Measure,
@@ -24,24 +24,24 @@ fn put_result(
     second: Measure,
     steps: u32,
     out: &mut [u8],
-) -> usize
+) -> Option<usize>
     requires measured { Measured edges.now first.bits first.ones first.len }
     requires measured_2 { Measured escapes.now second.bits second.ones second.len }
     ensures { put_to result out.new ≡ front out.old (result_of (as_result edges.now escapes.now steps)) }
 {
     let room = out.len();
     if room < first.len {
-        return 0;
+        return None;
     }
     if room - first.len < second.len {
-        return 0;
+        return None;
     }
-    if room - first.len - second.len < number::number_len(steps as u64) {
-        return 0;
+    if room - first.len - second.len < number_len(steps as u64) {
+        return None;
     }
-    let i = list_writer::put_measured(edges, first.ones, out);
-    let j = i + list_writer::put_measured(escapes, second.ones, &mut out[i..]);
-    j + number::put_number(steps as u64, &mut out[j..])
+    let i = put_measured(edges, first.ones, out);
+    let j = i + put_measured(escapes, second.ones, &mut out[i..]);
+    Some(j + put_number(steps as u64, &mut out[j..]).unwrap())
 }
 
 // The same from an offset on, where all tests but that for room have passed.
@@ -53,17 +53,16 @@ fn put_from(
     steps: u32,
     out: &mut [u8],
     at: usize,
-) -> Wrote
+) -> Result<usize, Refusal>
     requires measured { Measured edges.now first.bits first.ones first.len }
     requires measured_2 { Measured escapes.now second.bits second.ones second.len }
     requires at_in_bounds { at ≤ length out.old }
     ensures { written_buffered result out.new ≡ writing [] out.old at (result_of (as_result edges.now escapes.now steps)) }
 {
-    let count = put_result(edges, first, escapes, second, steps, &mut out[at..]);
-    if count == 0 {
-        return Wrote::Not(Refusal::Room);
-    }
-    Wrote::To(at + count)
+    let count = put_result(edges, first, escapes, second, steps, &mut out[at..]).ok_or(
+        Refusal::Room,
+    )?;
+    Ok(at + count)
 }
 
 // Writes a round of the result from an offset on, for a caller who knows that only the room can be missing.
@@ -74,7 +73,7 @@ pub fn put_round(
     steps: u32,
     out: &mut [u8],
     at: usize,
-) -> Wrote
+) -> Result<usize, Refusal>
     requires shape { IsShape shape }
     requires edges_len { length edges.now ≡ layer_edges_of shape.model shape.height shape.distance }
     requires escapes_len { length escapes.now ≡ detectors_of shape.height shape.distance }
@@ -83,14 +82,14 @@ pub fn put_round(
     requires at_in_bounds { at ≤ length out.old }
     ensures { written_buffered result out.new ≡ write_result shape (as_result edges.now escapes.now steps) out.old at }
 {
-    let first = list_writer::measured(edges);
-    let second = list_writer::measured(escapes);
+    let first = measured(edges);
+    let second = measured(escapes);
     put_from(edges, first, escapes, second, steps, out, at)
 }
 
 // The same for a round with no committed edge and no escaped defect: all entries are 0, and none is looked at. Every list of zeros has the
 // bytes of the empty one.
-pub fn write_quiet(shape: Shape, steps: u32, out: &mut [u8], at: usize) -> Wrote
+pub fn write_quiet(shape: Shape, steps: u32, out: &mut [u8], at: usize) -> Result<usize, Refusal>
     requires shape { IsShape shape }
     requires at_in_bounds { at ≤ length out.old }
     ensures { written_buffered result out.new ≡ write_result shape (as_result (replicate (layer_edges_of shape.model shape.height shape.distance) 0) (replicate (detectors_of shape.height shape.distance) 0) steps) out.old at }
@@ -112,26 +111,23 @@ pub fn write_result(
     steps: u32,
     out: &mut [u8],
     at: usize,
-) -> Wrote
+) -> Result<usize, Refusal>
     ensures { written_buffered result out.new ≡ write_result shape (as_result edges.now escapes.now steps) out.old at }
 {
-    let tested = record::test_place(shape, out.len(), at);
-    if let Tested::Refused(f) = tested {
-        return Wrote::Not(f);
-    }
+    record::test_place(shape, out.len(), at)?;
     if edges.len() != extent::layer_edges(shape) {
-        return Wrote::Not(Refusal::Edges);
+        return Err(Refusal::Edges);
     }
     if escapes.len() != extent::detectors(shape) {
-        return Wrote::Not(Refusal::Escapes);
+        return Err(Refusal::Escapes);
     }
-    let first = list_writer::measured(edges);
+    let first = measured(edges);
     if 1 < first.bits {
-        return Wrote::Not(Refusal::Byte);
+        return Err(Refusal::Byte);
     }
-    let second = list_writer::measured(escapes);
+    let second = measured(escapes);
     if 1 < second.bits {
-        return Wrote::Not(Refusal::Byte);
+        return Err(Refusal::Byte);
     }
     put_from(edges, first, escapes, second, steps, out, at)
 }

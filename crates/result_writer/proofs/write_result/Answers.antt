@@ -1,29 +1,24 @@
 -- `result_writer::write_result` meets its contract: where all tests pass, only the room is left. Assumes nothing.
-use mathlib.Core.Path.{◌≡◌, sym, ◌∙◌}
+use mathlib.Core.Path.{◌≡◌, ◌∙◌}
 use mathlib.Core.Bool.{true, false}
 use mathlib.Core.List.{List, [], ◌∷◌, ◌++◌}
 use Prim.Native.Nat.{ℕ}
-use borrow.Author.Tests.{eq-eqb, ne_eqb, le-leb, lt-leb}
+use borrow.Author.Tests.{eq-eqb, le-leb, lt-leb}
 use lib.ListN.{length}
 use Rattle.refusal.specs.Tests.{Passes, Turned, pass-none, pass-one, pass-append, turn-here, turn-later, turned-after}
 use Rattle.refusal.specs.declared.Refusal.{Refusal}
-use Rattle.refusal.specs.declared.Refusal.TheVariants.{Edges, Escapes, Byte}
+use Rattle.refusal.specs.declared.Refusal.TheVariants.{Byte}
 use Rattle.list.specs.Sheet.{are_bits}
 use Rattle.list_writer.specs.Laws.{bits-told}
 use Rattle.shape.specs.Sizes.{detectors_of, layer_edges_of}
 use Rattle.shape.specs.declared.Shape.{Shape}
 use Rattle.record.specs.Records.{result}
 use Rattle.record.specs.Calls.{place_tests, edges_test, escapes_test, as_result}
-use Rattle.record.proofs.Places.{place_inside, place-passes, writer-misplaced, writer-turned}
+use Rattle.record.proofs.Places.{place-passes, writer-turned}
 use Rattle.result_writer.proofs.Passing.{bits, more, passed}
 use Rattle.result_writer.proofs.write_result.Goals as goal
 
 module _ (sh : Shape) (edges escapes : List ℕ) (n : ℕ) (e : n ≡ layer_edges_of sh.model sh.height sh.distance) where
-  wrong-edges : (length edges ≡ n → ⊥) → Turned (more sh edges escapes) Edges
-  wrong-edges h =
-      turn-here (edges_test sh edges).0 5 (escapes_test sh escapes ∷ bits edges escapes)
-      (ne_eqb (length edges) (layer_edges_of sh.model sh.height sh.distance) (λ k. h (k ∙ sym e)))
-
   module _ (h : length edges ≡ n) where
     right-edges : (edges_test sh edges).0 ≡ true
     right-edges = eq-eqb (length edges) (layer_edges_of sh.model sh.height sh.distance) (h ∙ e)
@@ -35,11 +30,6 @@ module _ (sh : Shape) (edges escapes : List ℕ) (n : ℕ) (e : n ≡ layer_edge
     edges-pass p = pass-one (edges_test sh edges).0 5 (escapes_test sh escapes ∷ bits edges escapes) right-edges p
 
 module _ (sh : Shape) (edges escapes : List ℕ) (n : ℕ) (e : n ≡ detectors_of sh.height sh.distance) where
-  wrong-escapes : (length escapes ≡ n → ⊥) → Turned (escapes_test sh escapes ∷ bits edges escapes) Escapes
-  wrong-escapes h =
-      turn-here (escapes_test sh escapes).0 6 (bits edges escapes)
-      (ne_eqb (length escapes) (detectors_of sh.height sh.distance) (λ k. h (k ∙ sym e)))
-
   module _ (h : length escapes ≡ n) where
     right : (escapes_test sh escapes).0 ≡ true
     right = eq-eqb (length escapes) (detectors_of sh.height sh.distance) (h ∙ e)
@@ -57,60 +47,35 @@ module _ (sh : Shape) (edges escapes : List ℕ) (n : ℕ) (e : n ≡ detectors_
         pass-one (escapes_test sh escapes).0 6 (bits edges escapes) right
         (pass-one (are_bits edges) 4 ((are_bits escapes, 4) ∷ []) k (pass-one (are_bits escapes) 4 [] m pass-none))
 
-pub returns-in-Refused : goal.returns-in-Refused
-returns-in-Refused c =
-    let a = c.args in
-    let t = c.test_place-tested in
-    writer-misplaced a.shape a.out.now a.at t.result t.ensures (more a.shape a.edges.now a.escapes.now) (result (as_result a.edges.now a.escapes.now a.steps)) c.in-Refused.f c.in-Refused.is
-
-pub returns-then-edges-layer_edges : goal.returns-then-edges-layer_edges
-returns-then-edges-layer_edges c =
-    let a = c.args in
-    let t = c.test_place-tested in
-    writer-turned a.shape a.out.now a.at t.result t.ensures (more a.shape a.edges.now a.escapes.now) (result (as_result a.edges.now a.escapes.now a.steps)) c.in_default.is Edges
-    (wrong-edges a.shape a.edges.now a.escapes.now c.layer_edges.result c.layer_edges.ensures c.if-edges-layer_edges.true)
-
-pub returns-then-escapes-detectors : goal.returns-then-escapes-detectors
-returns-then-escapes-detectors c =
-    let a = c.args in
-    let t = c.test_place-tested in
-    writer-turned a.shape a.out.now a.at t.result t.ensures (more a.shape a.edges.now a.escapes.now) (result (as_result a.edges.now a.escapes.now a.steps)) c.in_default.is Escapes
-    (edges-then a.shape a.edges.now a.escapes.now c.layer_edges.result c.layer_edges.ensures c.if-edges-layer_edges.false Escapes (wrong-escapes a.shape a.edges.now a.escapes.now c.detectors.result c.detectors.ensures c.if-escapes-detectors.true))
-
 pub returns-then-first-gt1 : goal.returns-then-first-gt1
 returns-then-first-gt1 c =
     let a = c.args in
-    let t = c.test_place-tested in
+    let t = c.test_place in
     let m = c.measured-first in
-    writer-turned a.shape a.out.now a.at t.result t.ensures (more a.shape a.edges.now a.escapes.now) (result (as_result a.edges.now a.escapes.now a.steps)) c.in_default.is Byte
+    writer-turned a.shape a.out.now a.at t.result t.ensures (more a.shape a.edges.now a.escapes.now) (result (as_result a.edges.now a.escapes.now a.steps)) c.in_ok-test_place.was Byte
     (edges-then a.shape a.edges.now a.escapes.now c.layer_edges.result c.layer_edges.ensures c.if-edges-layer_edges.false Byte
     (wild-edges a.shape a.edges.now a.escapes.now c.detectors.result c.detectors.ensures c.if-escapes-detectors.false (bits-told a.edges.now m.result.bits m.ensures.bits_are ∙ lt-leb _ 1 c.if-first-gt1.true)))
 
 pub returns-then-second-gt1 : goal.returns-then-second-gt1
 returns-then-second-gt1 c =
     let a = c.args in
-    let t = c.test_place-tested in
+    let t = c.test_place in
     let m = c.measured-first in
     let n = c.measured-second in
-    writer-turned a.shape a.out.now a.at t.result t.ensures (more a.shape a.edges.now a.escapes.now) (result (as_result a.edges.now a.escapes.now a.steps)) c.in_default.is Byte
+    writer-turned a.shape a.out.now a.at t.result t.ensures (more a.shape a.edges.now a.escapes.now) (result (as_result a.edges.now a.escapes.now a.steps)) c.in_ok-test_place.was Byte
     (edges-then a.shape a.edges.now a.escapes.now c.layer_edges.result c.layer_edges.ensures c.if-edges-layer_edges.false Byte
     (wild-escapes a.shape a.edges.now a.escapes.now c.detectors.result c.detectors.ensures c.if-escapes-detectors.false (bits-told a.edges.now m.result.bits m.ensures.bits_are ∙ le-leb _ 1 c.if-first-gt1.false)
     (bits-told a.escapes.now n.result.bits n.ensures.bits_are ∙ lt-leb _ 1 c.if-second-gt1.true)))
 
-pub put_from-requires : goal.put_from-requires
-put_from-requires c =
-    let a = c.args in
-    let t = c.test_place-tested in record { measured = c.measured-first.ensures; measured_2 = c.measured-second.ensures; at_in_bounds = place_inside a.shape (length a.out.now) a.at t.result t.ensures c.in_default.is }
-
 pub returns : goal.returns
 returns c =
     let a = c.args in
-    let t = c.test_place-tested in
+    let t = c.test_place in
     let m = c.measured-first in
     let n = c.measured-second in
     c.put_from.ensures
     ∙ passed (place_tests a.shape (length a.out.now) a.at ++ more a.shape a.edges.now a.escapes.now) a.out.now a.at (result (as_result a.edges.now a.escapes.now a.steps))
-    (pass-append (place_tests a.shape (length a.out.now) a.at) (more a.shape a.edges.now a.escapes.now) (place-passes a.shape (length a.out.now) a.at t.result t.ensures c.in_default.is)
+    (pass-append (place_tests a.shape (length a.out.now) a.at) (more a.shape a.edges.now a.escapes.now) (place-passes a.shape (length a.out.now) a.at t.result t.ensures c.in_ok-test_place.was)
     (edges-pass a.shape a.edges.now a.escapes.now c.layer_edges.result c.layer_edges.ensures c.if-edges-layer_edges.false
     (escapes-pass a.shape a.edges.now a.escapes.now c.detectors.result c.detectors.ensures c.if-escapes-detectors.false (bits-told a.edges.now m.result.bits m.ensures.bits_are ∙ le-leb _ 1 c.if-first-gt1.false)
     (bits-told a.escapes.now n.result.bits n.ensures.bits_are ∙ le-leb _ 1 c.if-second-gt1.false))))
