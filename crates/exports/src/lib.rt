@@ -17,32 +17,29 @@ ghost use Rattle.bound.specs.Bound.{step_bound};
 ghost use Rattle.creation.specs.Creation.{allowed_shape};
 ghost use Rattle.refusal.specs.Answer.{status};
 
+// stays: a status is a number, and a shape, its offset and its values are single parameters, since the C interface has them so
 pub fn baizeridge_read_number(src: &[u8], at: usize, value: &mut u32, place: &mut usize) -> u8
     ensures { value_out (reply result place.new) value.new ≡ number_read src.now at value.old place.old }
 {
-    let n = number::read_number(src, at);
-    reply::number(n, value, place)
+    reply::number(number::read_number(src, at), value, place)
 }
 
 pub fn baizeridge_write_number(n: u32, out: &mut [u8], at: usize, place: &mut usize) -> u8
     ensures { buffer_out (reply result place.new) out.new ≡ number_written n out.old at place.old }
 {
-    let w = number::write_number(n, out, at);
-    reply::wrote(w, place)
+    reply::offset(number::write_number(n, out, at), place)
 }
 
 pub fn baizeridge_read_list(src: &[u8], at: usize, out: &mut [u8], place: &mut usize) -> u8
     ensures { buffer_out (reply result place.new) out.new ≡ list_read src.now at out.old place.old }
 {
-    let l = list::read_list(src, at, out);
-    reply::list(l, place)
+    reply::offset(list::read_list(src, at, out), place)
 }
 
 pub fn baizeridge_write_list(entries: &[u8], out: &mut [u8], at: usize, place: &mut usize) -> u8
     ensures { buffer_out (reply result place.new) out.new ≡ list_written entries.now out.old at place.old }
 {
-    let w = list_writer::write_list(entries, out, at);
-    reply::wrote(w, place)
+    reply::offset(list_writer::write_list(entries, out, at), place)
 }
 
 // A reader `take_` moves the lent offset behind the record, and leaves it where none was read; `read_` is the same with an offset by value.
@@ -56,8 +53,8 @@ pub fn baizeridge_take_header(
 ) -> u8
     ensures { taken (header_out (reply result place.new) height.new distance.new model.new) at.new ≡ header_taken src.now at.old height.old distance.old model.old place.old }
 {
-    let h = stream::take_header(src, at);
-    reply::header(h, height, distance, model, place)
+    let read = stream::take_header(src, at);
+    reply::header(read, height, distance, model, place)
 }
 
 pub fn baizeridge_read_header(
@@ -85,8 +82,7 @@ pub fn baizeridge_write_header(
     ensures { buffer_out (reply result place.new) out.new ≡ header_written height distance model out.old at place.old }
 {
     let shape = named::shape_by(height, distance, model);
-    let w = record::write_header(shape, out, at);
-    reply::wrote(w, place)
+    reply::offset(record::write_header(shape, out, at), place)
 }
 
 pub fn baizeridge_take_round(
@@ -101,8 +97,7 @@ pub fn baizeridge_take_round(
     ensures { taken (round_out (reply result place.new) defects.new) at.new ≡ round_taken height distance model src.now at.old defects.old place.old }
 {
     let shape = named::shape_by(height, distance, model);
-    let d = stream::take_round(shape, src, at, defects);
-    reply::round(d, place)
+    reply::round(stream::take_round(shape, src, at, defects), place)
 }
 
 pub fn baizeridge_read_round(
@@ -132,8 +127,7 @@ pub fn baizeridge_write_round(
     ensures { buffer_out (reply result place.new) out.new ≡ round_written height distance model defects.now out.old at place.old }
 {
     let shape = named::shape_by(height, distance, model);
-    let w = input::write_round(shape, defects, out, at);
-    reply::wrote(w, place)
+    reply::offset(input::write_round(shape, defects, out, at), place)
 }
 
 pub fn baizeridge_take_result(
@@ -150,8 +144,8 @@ pub fn baizeridge_take_result(
     ensures { taken (result_out (reply result place.new) edges.new escapes.new steps.new) at.new ≡ result_taken height distance model src.now at.old edges.old escapes.old steps.old place.old }
 {
     let shape = named::shape_by(height, distance, model);
-    let d = stream::take_result(shape, src, at, edges, escapes);
-    reply::result(d, steps, place)
+    let read = stream::take_result(shape, src, at, edges, escapes);
+    reply::result(read, steps, place)
 }
 
 pub fn baizeridge_read_result(
@@ -187,8 +181,8 @@ pub fn baizeridge_write_result(
     ensures { buffer_out (reply result place.new) out.new ≡ result_written height distance model edges.now escapes.now steps out.old at place.old }
 {
     let shape = named::shape_by(height, distance, model);
-    let w = result_writer::write_result(shape, edges, escapes, steps, out, at);
-    reply::wrote(w, place)
+    let written = result_writer::write_result(shape, edges, escapes, steps, out, at);
+    reply::offset(written, place)
 }
 
 // Reads a whole input stream. The place takes its length.
@@ -202,8 +196,8 @@ pub fn baizeridge_scan_input(
 ) -> u8
     ensures { scan_out (reply result place.new) height.new distance.new model.new rounds.new ≡ input_scanned src.now height.old distance.old model.old rounds.old place.old }
 {
-    let s = stream::scan_input(src);
-    reply::stream(s, src.len(), height, distance, model, rounds, place)
+    let read = stream::scan_input(src);
+    reply::stream(read, src.len(), height, distance, model, rounds, place)
 }
 
 // Reads a whole result stream in the same way.
@@ -217,8 +211,8 @@ pub fn baizeridge_scan_results(
 ) -> u8
     ensures { scan_out (reply result place.new) height.new distance.new model.new rounds.new ≡ results_scanned src.now height.old distance.old model.old rounds.old place.old }
 {
-    let s = stream::scan_results(src);
-    reply::stream(s, src.len(), height, distance, model, rounds, place)
+    let read = stream::scan_results(src);
+    reply::stream(read, src.len(), height, distance, model, rounds, place)
 }
 
 // The sizes of a shape, 0 where it is refused: the nodes of its window,
@@ -268,7 +262,6 @@ pub fn baizeridge_allowed(
 pub fn baizeridge_decode(src: &[u8], out: &mut [u8], count: &mut usize, place: &mut usize) -> u8
     ensures { decode_out (reply result place.new) out.new count.new ≡ stream_decoded src.now out.old place.old }
 {
-    let r = session::decode(src, out);
-    let e = r.ending;
-    reply::ending(e, r.count, count, place)
+    let given = session::decode(src, out);
+    reply::ending(given.ending, given.count, count, place)
 }

@@ -10,6 +10,7 @@ ghost use Rattle.bound.specs.Bound.{step_bound};
 ghost use Rattle.creation.specs.Creation.{allowed_shape};
 ghost use Rattle.refusal.specs.Answer.{status};
 
+// stays: these are the names and parameters of the C interface, so each function hands on to the one in `crates/exports`
 #[unsafe(no_mangle)]
 pub extern "C" fn baizeridge_read_number(
     src: &[u8],

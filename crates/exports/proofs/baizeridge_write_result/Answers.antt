@@ -8,5 +8,5 @@ use Rattle.exports.proofs.baizeridge_write_result.Goals as goal
 pub returns : goal.returns
 returns c =
     let a = c.args in
-    let e = c.write_result-w.ensures ∙ result-written a.height a.distance a.model c.shape_by-shape.ensures (as_result a.edges.now a.escapes.now a.steps) a.out.now a.at in
-    buffer-out a.place.now e c.wrote.ensures
+    let e = c.write_result-written.ensures ∙ result-written a.height a.distance a.model c.shape_by-shape.ensures (as_result a.edges.now a.escapes.now a.steps) a.out.now a.at in
+    buffer-out a.place.now e c.offset.ensures
