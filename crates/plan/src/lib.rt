@@ -32,6 +32,7 @@ pub struct Area {
 }
 
 // The sizes of a shape.
+// stays: each function here asks that its shape is in range; a second type of shape is no plainer, and one that fills would have to say that it keeps its shape
 pub fn sizes(shape: Shape) -> Sizes
     requires { in_range shape.height shape.distance ≡ true }
     ensures { result ≡ sizes_of (of_model shape.model) shape.height shape.distance }
