@@ -1,5 +1,5 @@
 -- `write_round::is_still` meets its contract. Assumes nothing.
-use Rattle.std.proofs.Common.{◌≡◌, Bool}
+use Rattle.std.proofs.Common.{◌≡◌}
 use Rattle.std.specs.Prelude.{◌&&◌}
 use Rattle.window.specs.Lists.{every}
 use Rattle.write_round.specs.Left.{blank_of, quiet_of}
