@@ -24,49 +24,35 @@
 // window but the last measured sheet; and that sheet's bits as a binary number, the first one highest, modulo a prime, in decimal.
 #![tactic(auto)]
 
-ghost use Rattle.std.specs.Prelude.{◌≡◌, ◌≤◌, length};
+ghost use Rattle.std.specs.Prelude.{◌≤◌, length};
 
 use calls::{Merged, Outcome};
-use shape::{MAX_DETECTORS, MAX_NODES, Shape};
+use refusal::Refusal;
+use shape::Shape;
 use std::io;
-use window::{Called, Given, MAX_SLOTS, Mark, Node, Stage, Window};
+use window::{Given, Mark, Node, Stage, Window};
 
 // The bytes of the buffer that holds the script.
 const SCRIPT_BYTES: usize = 65536;
 
-// The offset of its last byte.
-const LAST: usize = SCRIPT_BYTES - 1;
+// The largest edge and escape buffers; a slice of a round is as large as the second.
+const MOST_EDGES: usize = 1280;
 
-// A number of the script, and the offset behind it.
-#[derive(Clone, Copy)]
-struct Read {
-    value: u32,
-    at: usize,
-}
+const MOST_ESCAPES: usize = 256;
 
-// THE DIGEST: a polynomial modulo a prime below 2^55.
+// The prime of the digest, below 2^55.
+const PRIME: u64 = 36028797018963913;
+
+// THE DIGEST: a polynomial modulo the prime.
 
 fn mix(digest: u64, x: u64) -> u64 {
-    ((digest % 36028797018963913) * 259 + x % 4294967296 + 1) % 36028797018963913
-}
-
-fn one(set: bool) -> u64 {
-    if set {
-        return 1;
-    }
-    0
-}
-
-fn wide(x: u8) -> u64
-    ensures { result ≡ x }
-{
-    x as u64
+    ((digest % PRIME) * 259 + x % 4294967296 + 1) % PRIME
 }
 
 fn mark_code(mark: Mark) -> u64 {
     match mark {
         Mark::Reset => 65536,
-        Mark::Root(m) => m as u64,
+        Mark::Root(m) => u64::from(m),
     }
 }
 
@@ -79,62 +65,32 @@ fn stage_code(stage: Stage) -> u64 {
 }
 
 fn mix_node(digest: u64, node: Node) -> u64 {
-    let mark = node.mark;
-    let a = mix(digest, one(node.active));
-    let b = mix(a, one(node.defect));
-    let c = mix(b, one(node.unrooted));
-    let d = mix(c, wide(node.pointer));
-    mix(d, mark_code(mark))
-}
-
-fn mix_nodes(digest: u64, nodes: &[Node; MAX_NODES]) -> u64 {
-    let mut sum = digest;
-    for node in nodes {
-        sum = mix_node(sum, *node);
-    }
-    sum
-}
-
-fn mix_growth(digest: u64, growth: &[u8; MAX_SLOTS]) -> u64 {
-    let mut sum = digest;
-    for halves in growth {
-        sum = mix(sum, wide(*halves));
-    }
-    sum
-}
-
-fn mix_correction(digest: u64, correction: &[bool; MAX_SLOTS]) -> u64 {
-    let mut sum = digest;
-    for bit in correction {
-        sum = mix(sum, one(*bit));
-    }
-    sum
+    let a = mix(digest, u64::from(node.active));
+    let b = mix(a, u64::from(node.defect));
+    let c = mix(b, u64::from(node.unrooted));
+    let d = mix(c, u64::from(node.pointer));
+    mix(d, mark_code(node.mark))
 }
 
 fn digest(w: &Window) -> u64 {
-    let shape = w.shape;
-    let stage = w.stage;
-    let a = mix(0, wide(shape.height));
-    let b = mix(a, wide(shape.distance));
-    let c = mix(b, wide(shape.model));
-    let d = mix(c, stage_code(stage));
-    let e = mix(d, w.next as u64);
-    let f = mix_nodes(e, &w.nodes);
-    let g = mix_growth(f, &w.growth);
-    mix_correction(g, &w.correction)
+    let a = mix(0, u64::from(w.shape.height));
+    let b = mix(a, u64::from(w.shape.distance));
+    let c = mix(b, u64::from(w.shape.model));
+    let d = mix(c, stage_code(w.stage));
+    let e = mix(d, u64::from(w.next));
+    let f = w.nodes.iter().fold(e, |sum, node| mix_node(sum, *node));
+    let g = w
+        .growth
+        .iter()
+        .fold(f, |sum, halves| mix(sum, u64::from(*halves)));
+    w.correction
+        .iter()
+        .fold(g, |sum, bit| mix(sum, u64::from(*bit)))
 }
 
 // One binary digit more, modulo the same prime.
 fn append(sum: u64, set: bool) -> u64 {
-    ((sum % 36028797018963913) * 2 + one(set) % 2) % 36028797018963913
-}
-
-fn fold_measured(measured: &[bool; MAX_DETECTORS]) -> u64 {
-    let mut sum: u64 = 0;
-    for bit in measured {
-        sum = append(sum, *bit);
-    }
-    sum
+    ((sum % PRIME) * 2 + u64::from(set)) % PRIME
 }
 
 // WHAT IS WRITTEN. Where standard output cannot be written, nothing is told.
@@ -143,64 +99,49 @@ fn say(rt: &impl Print, text: &[u8]) {
     let _ = rt.write_all(text);
 }
 
-fn say_refused(rt: &impl Print, number: u8) {
+fn say_refused(rt: &impl Print, f: Refusal) {
+    let number = u8::from(f);
     let _ = print!(rt; "refused {number} ");
 }
 
-fn say_called(rt: &impl Print, answer: Called) {
+fn say_done(rt: &impl Print, answer: Result<(), Refusal>) {
     match answer {
-        Called::Done => say(rt, b"done "),
-        Called::Refused(f) => say_refused(rt, refusal::number(f)),
+        Ok(()) => say(rt, b"done "),
+        Err(f) => say_refused(rt, f),
     }
 }
 
-// Whether some node was busy.
-fn say_merged(rt: &impl Print, answer: Merged) -> bool {
+fn say_merged(rt: &impl Print, answer: Result<Merged, Refusal>) {
     match answer {
-        Merged::Busy => {
-            say(rt, b"busy ");
-            true
-        }
-        Merged::Rest => {
-            say(rt, b"rest ");
-            false
-        }
-        Merged::Refused(f) => {
-            say_refused(rt, refusal::number(f));
-            false
-        }
+        Ok(Merged::Busy) => say(rt, b"busy "),
+        Ok(Merged::Rest) => say(rt, b"rest "),
+        Err(f) => say_refused(rt, f),
     }
 }
 
-fn say_count(rt: &impl Print, count: u32) {
-    let _ = print!(rt; "{count} ");
-}
-
-fn say_outcome(rt: &impl Print, answer: Outcome) {
+fn say_outcome(rt: &impl Print, answer: Result<Outcome, Refusal>) {
     match answer {
-        Outcome::Rest(n) => {
-            say(rt, b"rest ");
-            say_count(rt, n)
+        Ok(Outcome::Rest(n)) => {
+            let _ = print!(rt; "rest {n} ");
         }
-        Outcome::Spent(n) => {
-            say(rt, b"spent ");
-            say_count(rt, n)
+        Ok(Outcome::Spent(n)) => {
+            let _ = print!(rt; "spent {n} ");
         }
-        Outcome::Refused(f) => say_refused(rt, refusal::number(f)),
+        Err(f) => say_refused(rt, f),
     }
 }
 
 fn say_window(rt: &impl Print, w: &Window) {
     let digest = digest(w);
-    let measured = fold_measured(&w.measured);
+    let measured = w.measured.iter().fold(0, |sum, bit| append(sum, *bit));
     let _ = println!(rt; "{digest:014x} {measured}");
 }
 
 fn digit(x: u8) -> u8 {
     if x < 10 {
-        return x + 48;
+        return b'0' + x;
     }
-    63
+    b'?'
 }
 
 // Turns a buffer into digits, and writes it.
@@ -212,90 +153,44 @@ fn say_buffer(rt: &impl Print, buffer: &mut [u8]) {
     say(rt, b" ");
 }
 
-// THE SCRIPT
+// THE SCRIPT. A text is what is left of it.
 
-fn is_digit(x: u8) -> bool {
-    (48 <= x) & (x <= 57)
-}
-
-fn value_of(x: u8) -> u8 {
-    if x < 48 {
-        return 0;
-    }
-    x - 48
-}
-
-// The first digit from an offset on.
-fn digit_from(script: &[u8; SCRIPT_BYTES], from: usize) -> usize {
-    for i in from..SCRIPT_BYTES {
-        if is_digit(script[i]) {
-            return i;
-        }
-    }
-    from.max(SCRIPT_BYTES)
-}
-
-// The first byte from an offset on that ends a line.
-fn line_end(script: &[u8; SCRIPT_BYTES], from: usize) -> usize {
-    for i in from..SCRIPT_BYTES {
-        if script[i] == b'\n' {
-            return i;
-        }
-    }
-    from.max(SCRIPT_BYTES)
-}
-
-// One digit more, modulo 2^32.
-fn shift(value: u64, x: u8) -> u64 {
-    ((value % 4294967296) * 10 + wide(value_of(x))) % 4294967296
-}
-
-fn narrow(value: u64) -> u32 {
-    (value % 4294967296) as u32
-}
-
-// The next number from an offset on.
-fn number(script: &[u8; SCRIPT_BYTES], from: usize) -> Read {
-    let first = digit_from(script, from);
-    let mut value: u64 = 0;
-    for i in first..SCRIPT_BYTES {
-        let x = script[i];
-        if !is_digit(x) {
-            return Read {
-                value: narrow(value),
-                at: i,
-            };
-        }
-        value = shift(value, x);
-    }
-    Read {
-        value: narrow(value),
-        at: first.max(SCRIPT_BYTES),
-    }
-}
-
-// The digits behind an offset, one a byte, at most 256 and as many as `out` holds; how many there are.
-fn digits(script: &[u8; SCRIPT_BYTES], from: usize, out: &mut [u8]) -> usize
-    ensures { result ≤ 256 }
+// The digits at the start of a text.
+fn digits(text: &[u8]) -> &[u8]
+    ensures { length result.now ≤ length text.now }
 {
-    if SCRIPT_BYTES <= from {
-        return 0;
+    let end = text
+        .iter()
+        .position(|x| !x.is_ascii_digit())
+        .unwrap_or(text.len());
+    &text[..end]
+}
+
+// The next number of a text, modulo 2^32, and the text behind it.
+fn number(text: &[u8]) -> (u32, &[u8]) {
+    let first = text
+        .iter()
+        .position(|x| x.is_ascii_digit())
+        .unwrap_or(text.len());
+    let rest = &text[first..];
+    let digits = digits(rest);
+    let value = digits.iter().fold(0u32, |value, x| {
+        value
+            .wrapping_mul(10)
+            .wrapping_add(u32::from(x.saturating_sub(b'0')))
+    });
+    (value, &rest[digits.len()..])
+}
+
+// Stores the digits behind the first byte of a text, one a byte, as many as there is room for; how many these are.
+fn store_digits(text: &[u8], out: &mut [u8]) -> usize
+    ensures { result ≤ length out.new }
+{
+    let digits = digits(text.get(1..).unwrap_or(&[]));
+    for (byte, x) in out.iter_mut().zip(digits) {
+        *byte = x.saturating_sub(b'0');
     }
-    for n in 0..256 {
-        let i = from + 1 + n;
-        if SCRIPT_BYTES <= i {
-            return n;
-        }
-        if out.len() <= n {
-            return n;
-        }
-        let x = script[i];
-        if !is_digit(x) {
-            return n;
-        }
-        out[n] = value_of(x);
-    }
-    256
+    digits.len().min(out.len())
 }
 
 fn byte(x: u32) -> u8 {
@@ -304,22 +199,15 @@ fn byte(x: u32) -> u8 {
 
 // THE CALLS
 
-fn open(rt: &impl Print, script: &[u8; SCRIPT_BYTES], from: usize) -> Window {
-    let height = number(script, from);
-    let distance = number(script, height.at);
-    let model = number(script, distance.at);
-    let largest_height = number(script, model.at);
-    let largest_distance = number(script, largest_height.at);
-    let given = fresh::fresh(
-        height.value,
-        distance.value,
-        model.value,
-        largest_height.value,
-        largest_distance.value,
-    );
-    let answer = given.answer;
+fn open(rt: &impl Print, text: &[u8]) -> Window {
+    let (height, text) = number(text);
+    let (distance, text) = number(text);
+    let (model, text) = number(text);
+    let (largest_height, text) = number(text);
+    let (largest_distance, _) = number(text);
+    let given = fresh::fresh(height, distance, model, largest_height, largest_distance);
     say(rt, b"open ");
-    say_called(rt, answer);
+    say_done(rt, given.answer);
     given.window
 }
 
@@ -331,7 +219,7 @@ fn either_round(
     bytes: &[u8],
     edges: &mut [u8],
     escapes: &mut [u8],
-) -> Given {
+) -> Given<()> {
     if raw {
         say(rt, b"raw ");
         return calls::raw_round(w, bytes, edges, escapes);
@@ -340,77 +228,38 @@ fn either_round(
     calls::round(w, bytes, edges, escapes)
 }
 
-fn receive(
-    rt: &impl Print,
-    w: Window,
-    raw: bool,
-    bytes: &[u8],
-    edges: &mut [u8],
-    escapes: &mut [u8],
-) -> Window {
-    let given = either_round(rt, w, raw, bytes, edges, escapes);
-    let answer = given.answer;
-    say_called(rt, answer);
-    say_buffer(rt, edges);
-    say_buffer(rt, escapes);
+// Each byte of the buffers is 7 before the call: what no call leaves.
+fn round(rt: &impl Print, text: &[u8], raw: bool, w: Window) -> Window {
+    let (edges, text) = number(text);
+    let (escapes, text) = number(text);
+    let mut bytes = [0; MOST_ESCAPES];
+    let n = store_digits(text, &mut bytes);
+    let mut edge_buffer = [7; MOST_EDGES];
+    let mut escape_buffer = [7; MOST_ESCAPES];
+    let edge_bytes = &mut edge_buffer[..(edges as usize).min(MOST_EDGES)];
+    let escape_bytes = &mut escape_buffer[..(escapes as usize).min(MOST_ESCAPES)];
+    let given = either_round(rt, w, raw, &bytes[..n], edge_bytes, escape_bytes);
+    say_done(rt, given.answer);
+    say_buffer(rt, edge_bytes);
+    say_buffer(rt, escape_bytes);
     given.window
-}
-
-// Seven in every byte: what no call leaves.
-fn edge_marks() -> [u8; 1280]
-    ensures { 1280 ≡ length result }
-{
-    [7; 1280]
-}
-
-fn escape_marks() -> [u8; 256]
-    ensures { 256 ≡ length result }
-{
-    [7; 256]
-}
-
-fn round(
-    rt: &impl Print,
-    script: &[u8; SCRIPT_BYTES],
-    from: usize,
-    raw: bool,
-    w: Window,
-) -> Window {
-    let edges = number(script, from);
-    let escapes = number(script, edges.at);
-    let mut bytes = escape_marks();
-    let got = digits(script, escapes.at, &mut bytes);
-    let mut edge_buffer = edge_marks();
-    let mut escape_buffer = escape_marks();
-    let n = got.min(bytes.len());
-    let e = (edges.value as usize).min(edge_buffer.len());
-    let s = (escapes.value as usize).min(escape_buffer.len());
-    receive(
-        rt,
-        w,
-        raw,
-        &bytes[..n],
-        &mut edge_buffer[..e],
-        &mut escape_buffer[..s],
-    )
 }
 
 fn grow(rt: &impl Print, w: Window) -> Window {
     let given = calls::grow(w);
-    let answer = given.answer;
     say(rt, b"grow ");
-    say_called(rt, answer);
+    say_done(rt, given.answer);
     given.window
 }
 
 fn merging(rt: &impl Print, w: Window, most: u32) -> Window {
     let mut window = w;
     for made in 0..most {
-        let stepped = calls::merging(window);
-        let answer = stepped.answer;
-        window = stepped.window;
+        let given = calls::merging(window);
+        window = given.window;
         say(rt, b"merging ");
-        if !say_merged(rt, answer) {
+        say_merged(rt, given.answer);
+        if !matches!(given.answer, Ok(Merged::Busy)) {
             return window;
         }
         if made + 1 < most {
@@ -421,31 +270,24 @@ fn merging(rt: &impl Print, w: Window, most: u32) -> Window {
 }
 
 fn run(rt: &impl Print, w: Window, budget: u32) -> Window {
-    let concluded = calls::run(w, budget);
-    let answer = concluded.answer;
+    let given = calls::run(w, budget);
     say(rt, b"run ");
-    say_outcome(rt, answer);
-    concluded.window
+    say_outcome(rt, given.answer);
+    given.window
 }
 
 // THE EDITS
 
-// A shape by the numbers that are next in the script.
-fn shape_by(script: &[u8; SCRIPT_BYTES], from: usize) -> Shape {
-    let height = number(script, from);
-    let distance = number(script, height.at);
-    let model = number(script, distance.at);
+// A shape by the next numbers of a text.
+fn shape_by(text: &[u8]) -> Shape {
+    let (height, text) = number(text);
+    let (distance, text) = number(text);
+    let (model, _) = number(text);
     Shape {
-        height: byte(height.value),
-        distance: byte(distance.value),
-        model: byte(model.value),
+        height: byte(height),
+        distance: byte(distance),
+        model: byte(model),
     }
-}
-
-fn set_shape(w: Window, shape: Shape) -> Window {
-    let mut v = w;
-    v.shape = shape;
-    v
 }
 
 fn stage_of(code: u32) -> Stage {
@@ -456,171 +298,83 @@ fn stage_of(code: u32) -> Stage {
     }
 }
 
-fn set_stage(w: Window, code: u32) -> Window {
-    let shape = w.shape;
-    let nodes = w.nodes;
-    let growth = w.growth;
-    let correction = w.correction;
-    let measured = w.measured;
-    Window {
-        shape,
-        stage: stage_of(code),
-        next: w.next,
-        nodes,
-        growth,
-        correction,
-        measured,
-    }
-}
-
-fn set_next(w: Window, next: u32) -> Window {
-    let mut v = w;
-    v.next = next;
-    v
-}
-
 fn mark_of(code: u32) -> Mark {
-    if code < 65536 {
-        return Mark::Root(code as u16);
+    match u16::try_from(code) {
+        Ok(m) => Mark::Root(m),
+        Err(_) => Mark::Reset,
     }
-    Mark::Reset
 }
 
-// A node by the numbers that are next in the script.
-fn node_of(script: &[u8; SCRIPT_BYTES], from: usize) -> Node {
-    let active = number(script, from);
-    let defect = number(script, active.at);
-    let unrooted = number(script, defect.at);
-    let pointer = number(script, unrooted.at);
-    let mark = number(script, pointer.at);
+// A node by the next numbers of a text.
+fn node_of(text: &[u8]) -> Node {
+    let (active, text) = number(text);
+    let (defect, text) = number(text);
+    let (unrooted, text) = number(text);
+    let (pointer, text) = number(text);
+    let (mark, _) = number(text);
     Node {
-        active: active.value == 1,
-        defect: defect.value == 1,
-        unrooted: unrooted.value == 1,
-        pointer: byte(pointer.value),
-        mark: mark_of(mark.value),
+        active: active == 1,
+        defect: defect == 1,
+        unrooted: unrooted == 1,
+        pointer: byte(pointer),
+        mark: mark_of(mark),
     }
 }
 
-fn set_node(w: Window, i: usize, node: Node) -> Window {
-    let mut v = w;
-    if i < MAX_NODES {
-        v.nodes[i] = node;
+// Stores a value at an index, unless the index is behind the end.
+fn store<T: Copy>(items: &mut [T], i: usize, value: T) {
+    if i < items.len() {
+        items[i] = value;
     }
-    v
-}
-
-fn set_halves(w: Window, i: usize, halves: u8) -> Window {
-    let mut v = w;
-    if i < MAX_SLOTS {
-        v.growth[i] = halves;
-    }
-    v
-}
-
-fn set_bit(w: Window, i: usize, bit: bool) -> Window {
-    let mut v = w;
-    if i < MAX_SLOTS {
-        v.correction[i] = bit;
-    }
-    v
-}
-
-fn set_measured(w: Window, i: usize, bit: bool) -> Window {
-    let mut v = w;
-    if i < MAX_DETECTORS {
-        v.measured[i] = bit;
-    }
-    v
 }
 
 // An edit by its letter.
-fn edit(
-    rt: &impl Print,
-    script: &[u8; SCRIPT_BYTES],
-    from: usize,
-    letter: u8,
-    w: Window,
-) -> Window {
-    let first = number(script, from);
-    let second = number(script, first.at);
-    let i = first.value as usize;
+fn edit(rt: &impl Print, text: &[u8], letter: u8, w: Window) -> Window {
+    let (first, rest) = number(text);
+    let (second, _) = number(rest);
+    let i = first as usize;
     say(rt, b"edit ");
+    let mut v = w;
     match letter {
-        b'd' => set_shape(w, shape_by(script, from)),
-        b's' => set_stage(w, first.value),
-        b'n' => set_next(w, first.value),
-        b'e' => set_node(w, i, node_of(script, first.at)),
-        b'h' => set_halves(w, i, byte(second.value)),
-        b'l' => set_measured(w, i, second.value == 1),
-        _ => set_bit(w, i, second.value == 1),
+        b'd' => v.shape = shape_by(text),
+        b's' => v.stage = stage_of(first),
+        b'n' => v.next = first,
+        b'e' => store(&mut v.nodes, i, node_of(rest)),
+        b'h' => store(&mut v.growth, i, byte(second)),
+        b'l' => store(&mut v.measured, i, second == 1),
+        _ => store(&mut v.correction, i, second == 1),
     }
+    v
 }
 
-// The byte behind an offset.
-fn second(script: &[u8; SCRIPT_BYTES], from: usize) -> u8 {
-    if LAST <= from {
-        return 0;
-    }
-    script[from + 1]
-}
-
-// The command of a letter, and the window after it.
-fn command(
-    rt: &impl Print,
-    script: &[u8; SCRIPT_BYTES],
-    from: usize,
-    letter: u8,
-    w: Window,
-) -> Window {
+// The command that a text begins with, and the window after it.
+fn command(rt: &impl Print, text: &[u8], letter: u8, w: Window) -> Window {
     match letter {
-        b'o' => open(rt, script, from),
-        b'r' => {
-            let kind = second(script, from);
-            if kind == b'u' {
-                let budget = number(script, from);
-                return run(rt, w, budget.value);
-            }
-            round(rt, script, from, kind == b'a', w)
-        }
+        b'o' => open(rt, text),
+        b'r' => match text.get(1) {
+            Some(b'u') => run(rt, w, number(text).0),
+            Some(b'a') => round(rt, text, true, w),
+            _ => round(rt, text, false, w),
+        },
         b'g' => grow(rt, w),
-        b'm' => {
-            let most = number(script, from);
-            merging(rt, w, most.value)
-        }
-        _ => edit(rt, script, from, letter, w),
+        b'm' => merging(rt, w, number(text).0),
+        _ => edit(rt, text, letter, w),
     }
 }
 
-// Writes a line as it stands.
-fn echo(rt: &impl Print, script: &[u8; SCRIPT_BYTES], from: usize) {
-    for i in from..SCRIPT_BYTES {
-        let x = [script[i]];
-        say(rt, &x);
-        if script[i] == b'\n' {
-            return;
-        }
-    }
-}
-
-// The line at an offset, and the window after it.
-fn line(
-    rt: &impl Print,
-    script: &[u8; SCRIPT_BYTES],
-    from: usize,
-    letter: u8,
-    w: Window,
-) -> Window {
+// The line that a text begins with, with its end, and the window after it.
+fn line(rt: &impl Print, text: &[u8], end: usize, letter: u8, w: Window) -> Window {
     if letter == b'#' {
-        echo(rt, script, from);
+        say(rt, text.get(..end).unwrap_or(text));
         return w;
     }
-    let window = command(rt, script, from, letter, w);
+    let window = command(rt, text, letter, w);
     say_window(rt, &window);
     window
 }
 
 // Reads until the buffer is full, the input ends or a read fails. A read may give fewer bytes than it has room for, and none at the end.
+// stays: each turn goes on by as many bytes as were read
 fn read_script(source: &mut impl io::Read, script: &mut [u8]) {
     let mut n = 0;
     while n < script.len() {
@@ -637,22 +391,17 @@ fn read_script(source: &mut impl io::Read, script: &mut [u8]) {
 fn main(rt: HostRuntime) {
     let mut script = [0u8; SCRIPT_BYTES];
     read_script(&mut rt.stdin(), &mut script);
-    let given = fresh::fresh(1, 2, 0, 1, 2);
-    let mut window = given.window;
-    let mut at: usize = 0;
-    while at < SCRIPT_BYTES {
-        let letter = script[at];
-        if letter == 0 {
+    let mut window = fresh::fresh(1, 2, 0, 1, 2).window;
+    let mut text: &[u8] = &script;
+    while let Some(letter) = text.first() {
+        if *letter == 0 {
             return;
         }
-        window = line(&rt, &script, at, letter, window);
-        let end = line_end(&script, at);
-        if end < at {
-            return;
-        }
-        if SCRIPT_BYTES <= end {
-            return;
-        }
-        at = end + 1;
+        let end = text
+            .iter()
+            .position(|x| *x == b'\n')
+            .map_or(text.len(), |i| i + 1);
+        window = line(&rt, text, end, *letter, window);
+        text = &text[end..];
     }
 }

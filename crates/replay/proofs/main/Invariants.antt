@@ -1,10 +1,9 @@
 -- The measure is what is left of the script.
-use Rattle.std.proofs.Common.{◌-◌}
-use Rattle.replay.proofs.Script.{script_bytes}
+use Rattle.std.proofs.Common.{length}
 use Rattle.replay.proofs.main.Given as goal
 
-abbrev pub invariant-loop-at : goal.invariant-loop-at
-invariant-loop-at l = Unit {0}
+abbrev pub invariant-loop-letter : goal.invariant-loop-letter
+invariant-loop-letter l = Unit {0}
 
-abbrev pub decreases-loop-at : goal.decreases-loop-at
-decreases-loop-at l = script_bytes - l.at
+abbrev pub decreases-loop-letter : goal.decreases-loop-letter
+decreases-loop-letter l = length l.text
