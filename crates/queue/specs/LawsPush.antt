@@ -8,12 +8,9 @@ use Rattle.flat.specs.Plan.{Plan}
 use Rattle.flat.specs.Step.{named, list_at}
 use Rattle.queue.specs.Queue.{Queue, Extends, Pushed, Inside, Opened}
 use Rattle.queue.specs.LawsTrues.{trues-set, queue-room}
-use Rattle.queue.specs.LawsNamed.{named_in, extends-none, extends-named, extends-on}
+use Rattle.queue.specs.LawsNamed.{named_in, extends-named, extends-on}
 
 module _ (x from count : ℕ) (lists : List ℕ) (queued : List Bool) (low : x < 4608) (half : from ≤ 9216) (q : Queue from count lists queued) where
-  pub pushed-before : get_or queued x false ≡ true → Pushed x from count count lists lists queued
-  pushed-before t = record { queue = q; extends = extends-none from count lists; self = q.known x t; places = λ n w p. p }
-
   module _ (t : get_or queued x false ≡ false) where
     abbrev new : List ℕ
     new = set lists (from + count) x

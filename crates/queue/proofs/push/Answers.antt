@@ -1,10 +1,7 @@
 use native.Mathlib.Omega.{arith}
 use Rattle.queue.specs.LawsTrues.{queue-room}
-use Rattle.queue.specs.LawsPush.{pushed-before, pushed-now}
+use Rattle.queue.specs.LawsPush.{pushed-now}
 use Rattle.queue.proofs.push.Goals as goal
-
-pub returns-then-queued-x : goal.returns-then-queued-x
-returns-then-queued-x c = pushed-before _ _ _ _ _ c.requires.x_bound.0 c.requires.x_bound.1 c.requires.queue c.if-queued-x.true
 
 pub overflow_add-lists : goal.overflow_add-lists
 overflow_add-lists c = let r = queue-room c.requires.queue _ c.requires.x_bound.0 c.if-queued-x.false in omega (arith, r, c.requires.x_bound.1)
