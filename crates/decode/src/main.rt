@@ -11,25 +11,19 @@
 #![tactic(auto)]
 
 use decoding::Ending;
-use number::Wrote;
-use record::HeaderRead;
 use refusal::Refusal;
-use shape::{MAX_DISTANCE, MAX_HEIGHT};
-use std::fs;
+use shape::{MAX_DISTANCE, MAX_HEIGHT, Shape};
 use std::fs::{OpenFile, OpenOptions};
 use std::io::{ErrorKind, Read};
 use std::rt::Files;
+use std::{fs, io};
 use window::Window;
 
 // Standard output, by its name.
 const RESULT: &str = "/dev/stdout";
 
-// What was read: how many bytes, or that a read failed.
-#[derive(Clone, Copy)]
-enum Input {
-    Bytes(usize),
-    Unread,
-}
+// The most bytes of the input.
+const MOST: usize = 65536;
 
 // Says a line on standard error. If that fails, nothing can be told.
 fn say_line(rt: &impl Eprint, line: &str) {
@@ -37,7 +31,7 @@ fn say_line(rt: &impl Eprint, line: &str) {
 }
 
 fn say_refused(rt: &impl Eprint, f: Refusal) {
-    let number = refusal::number(f);
+    let number = u8::from(f);
     let _ = eprintln!(rt; "refused {number}");
 }
 
@@ -49,16 +43,9 @@ fn say(rt: &impl Eprint, ending: Ending) {
     }
 }
 
-fn say_unwritten(rt: &impl Eprint) {
-    say_line(rt, "unwritten");
-}
-
 // Whether the result goes to a file. A pipe, a terminal or a socket is none.
 fn is_file(rt: &impl Files) -> bool {
-    match fs::metadata(rt, RESULT) {
-        Ok(about) => about.is_file(),
-        Err(_) => false,
-    }
+    fs::metadata(rt, RESULT).is_ok_and(|about| about.is_file())
 }
 
 // Whether a file that took the result cannot keep it: a file system, as one over the network, may tell only now that bytes are lost. A file
@@ -70,16 +57,14 @@ fn is_lost(rt: &impl Files) -> bool {
     let Ok(file) = OpenOptions::new().write(true).open(rt, RESULT) else {
         return false;
     };
-    match file.sync_all() {
-        Ok(()) => false,
-        Err(e) => e.kind() != ErrorKind::InvalidInput,
-    }
+    file.sync_all()
+        .is_err_and(|e| e.kind() != ErrorKind::InvalidInput)
 }
 
 // Asks a file to keep the result, since std has no close that answers, and says what stopped the decoding.
 fn conclude(rt: &(impl Eprint + Files), ending: Ending) {
     if is_lost(rt) {
-        say_unwritten(rt);
+        say_line(rt, "unwritten");
         return;
     }
     say(rt, ending);
@@ -87,17 +72,13 @@ fn conclude(rt: &(impl Eprint + Files), ending: Ending) {
 
 // Whether the next record has no room behind the others; an empty buffer has room for any (decoding/proofs/Lengths.antt).
 fn is_full(ending: Ending) -> bool {
-    match ending {
-        Ending::Finished => false,
-        Ending::Spent => false,
-        Ending::Refused(f) => refusal::number(f) == 11,
-    }
+    matches!(ending, Ending::Refused(Refusal::Room))
 }
 
 // Whether all the bytes are written. A file that takes only a part is full or limited, and at a limit the next write would end the program
 // before its line; a pipe or a terminal may take the rest.
 fn write_out(rt: &(impl Print + Files), bytes: &[u8]) -> bool {
-    if bytes.len() == 0 {
+    if bytes.is_empty() {
         return true;
     }
     let Ok(put) = rt.write_some(bytes) else {
@@ -106,10 +87,7 @@ fn write_out(rt: &(impl Print + Files), bytes: &[u8]) -> bool {
     if put == bytes.len() {
         return true;
     }
-    if put == 0 {
-        return false;
-    }
-    if is_file(rt) {
+    if put == 0 || is_file(rt) {
         return false;
     }
     rt.write_all(&bytes[put..]).is_ok()
@@ -117,10 +95,10 @@ fn write_out(rt: &(impl Print + Files), bytes: &[u8]) -> bool {
 
 // Writes out the buffer's front; whether all of it is written.
 fn write_front(rt: &(impl Print + Files), out: &[u8], end: usize) -> bool {
-    if out.len() < end {
-        return false;
+    match out.get(..end) {
+        Some(front) => write_out(rt, front),
+        None => false,
     }
-    write_out(rt, &out[..end])
 }
 
 // The rounds from an offset on, behind what stands in the buffer: it is written out whenever it is full.
@@ -137,65 +115,65 @@ fn decode_rounds(
     let mut to = behind;
     loop {
         let r = session::decode_rounds(window, src, at, out, to);
-        let ending = r.ending;
+        if !write_front(rt, out, r.to) {
+            say_line(rt, "unwritten");
+            return;
+        }
+        if !is_full(r.ending) || r.to == 0 {
+            conclude(rt, r.ending);
+            return;
+        }
         window = r.window;
         at = r.at;
-        let end = r.to;
-        if !write_front(rt, out, end) {
-            say_unwritten(rt);
-            return;
-        }
-        if !(is_full(ending) & (0 < end)) {
-            conclude(rt, ending);
-            return;
-        }
         to = 0;
     }
 }
 
+// The header's shape, which is read and written, and the offsets behind both.
+fn pass_header(src: &[u8], out: &mut [u8]) -> Result<(Shape, usize, usize), Refusal> {
+    let (shape, next) = record::read_header(src, 0)?;
+    let to = record::write_header(shape, out, 0)?;
+    Ok((shape, next, to))
+}
+
 fn decode(rt: &(impl Print + Eprint + Files), src: &[u8], out: &mut [u8]) {
-    match record::read_header(src, 0) {
-        HeaderRead::Refused(f) => say_refused(rt, f),
-        HeaderRead::Shape(shape, next) => match record::write_header(shape, out, 0) {
-            Wrote::Not(f) => say_refused(rt, f),
-            Wrote::To(to) => {
-                let fresh = fresh::fresh(
-                    shape.height as u32,
-                    shape.distance as u32,
-                    shape.model as u32,
-                    MAX_HEIGHT as u32,
-                    MAX_DISTANCE as u32,
-                );
-                let window = fresh.window;
-                decode_rounds(rt, window, src, next, out, to);
-            }
-        },
+    match pass_header(src, out) {
+        Err(f) => say_refused(rt, f),
+        Ok((shape, next, to)) => {
+            let fresh = fresh::fresh(
+                u32::from(shape.height),
+                u32::from(shape.distance),
+                u32::from(shape.model),
+                MAX_HEIGHT as u32,
+                MAX_DISTANCE as u32,
+            );
+            decode_rounds(rt, fresh.window, src, next, out, to);
+        }
     }
 }
 
 // Reads until the buffer is full or the input ends. A read may give fewer bytes than it has room for, and none at the end.
-fn read_input(source: &mut impl Read, input: &mut [u8]) -> Input {
+// stays: each turn goes on by as many bytes as were read
+fn read_input(source: &mut impl Read, input: &mut [u8]) -> io::Result<usize> {
     let mut n = 0;
     while n < input.len() {
-        let Ok(more) = source.read(&mut input[n..]) else {
-            return Input::Unread;
-        };
+        let more = source.read(&mut input[n..])?;
         if more == 0 {
-            return Input::Bytes(n);
+            return Ok(n);
         }
         n += more;
     }
-    Input::Bytes(n)
+    Ok(n)
 }
 
 // The buffer has room for one byte more than is decoded, which tells that the input is long.
 fn main(rt: HostRuntime) {
-    let mut input = [0u8; 65537];
+    let mut input = [0u8; MOST + 1];
     let mut out = [0u8; 65536];
     match read_input(&mut rt.stdin(), &mut input) {
-        Input::Unread => say_line(&rt, "unread"),
-        Input::Bytes(n) => {
-            if n > 65536 {
+        Err(_) => say_line(&rt, "unread"),
+        Ok(n) => {
+            if n > MOST {
                 say_line(&rt, "long");
                 return;
             }

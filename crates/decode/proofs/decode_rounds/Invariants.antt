@@ -6,8 +6,8 @@ use Rattle.decode.proofs.decode_rounds.Given as goal
 abbrev pub bound : ℕ → ℕ → ℕ → ℕ
 bound len at to = 2 * (len - at) + (1 - (1 - to))
 
-abbrev pub invariant-loop-window : goal.invariant-loop-window
-invariant-loop-window g l = Unit {0}
+abbrev pub invariant-loop-r : goal.invariant-loop-r
+invariant-loop-r g l = Unit {0}
 
-abbrev pub decreases-loop-window : goal.decreases-loop-window
-decreases-loop-window g l = bound (length l.src) l.at l.to
+abbrev pub decreases-loop-r : goal.decreases-loop-r
+decreases-loop-r g l = bound (length l.src) l.at l.to
