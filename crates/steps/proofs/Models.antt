@@ -1,10 +1,10 @@
 -- THE TWO MODELS as lists of moves. Assumes nothing.
-use Rattle.std.specs.Prelude.{ℕ, zero, suc, ◌+◌, ◌≤◌, ◌<◌, ◌≡◌, refl, true, false, not, List, leb, eqb, length}
+use Rattle.std.specs.Prelude.{ℕ, zero, suc, ◌+◌, ◌-◌, ◌≤◌, ◌<◌, ◌≡◌, refl, true, false, not, List, leb, eqb, length}
 use Rattle.std.proofs.Common.{arith, sym, ap, ◌∙◌, subst, eqb-true, ne_eqb, leb-true}
 use Rattle.std.proofs.lemmas.Bool.{not-true}
 use Rattle.shape.specs.Choice.{if-true, if-false, whether}
 use Rattle.shape.proofs.Ranges.{halves}
-use Rattle.steps.specs.Steps.{Table, base, step, naming, namer}
+use Rattle.steps.specs.Steps.{Table, base, here, step, naming, namer}
 use Rattle.steps.specs.ByPlace.{from}
 use Rattle.steps.specs.Ranks.{rank, pick, rank-all}
 use Rattle.steps.specs.Moves.{Move, move_at, reverse, names, unmoved, opposite, owned, kind_at, step_at, table_of, times, Steps}
@@ -87,6 +87,14 @@ few-kinds m = of-both (λ (T : Table). T.kinds ≤ 6) m (omega arith) (omega ari
 
 -- BY POINTER: the steps of model 0 are the first six of model 1
 
+pub circuit-stays : (p : ℕ) → 12 < p → here ≡ step circuit p
+unfolding circuit
+circuit-stays p l = let e : p ≡ suc (suc (suc (suc (suc (suc (suc (suc (suc (suc (suc (suc (suc (p - 13))))))))))))) = omega arith in sym (ap (step circuit) e)
+
+pub base_stays : (p : ℕ) → 6 < p → here ≡ step base p
+unfolding base
+base_stays p l = let e : p ≡ suc (suc (suc (suc (suc (suc (suc (p - 7))))))) = omega arith in sym (ap (step base) e)
+
 pub first-six : (p : ℕ) → p ≤ 6 → step circuit p ≡ step base p
 unfolding circuit base
 first-six zero l = refl
@@ -97,6 +105,13 @@ first-six (suc (suc (suc (suc zero)))) l = refl
 first-six (suc (suc (suc (suc (suc zero))))) l = refl
 first-six (suc (suc (suc (suc (suc (suc zero)))))) l = refl
 first-six (suc (suc (suc (suc (suc (suc (suc p))))))) l = absurd (omega arith)
+
+pub model-stays : (m p : ℕ) → length (of_model m).steps < p → step circuit 0 ≡ step (of_model m) p
+unfolding circuit base
+model-stays m p l =
+    whether (eqb m 1)
+    (λ e. let k = of-circuit m e in let f : 12 < p = subst (λ (T : Table). length T.steps < p) k l in circuit-stays p f ∙ ap (λ (T : Table). step T p) (sym k))
+    (λ e. let k = of-base m e in let f : 6 < p = subst (λ (T : Table). length T.steps < p) k l in base_stays p f ∙ ap (λ (T : Table). step T p) (sym k))
 
 pub model-steps : (m p : ℕ) → p ≤ length (of_model m).steps → step circuit p ≡ step (of_model m) p
 unfolding base
