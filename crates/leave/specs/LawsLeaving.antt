@@ -48,12 +48,22 @@ module _ (b d : ℕ) (nodes old : List ℕ) where
       let f : to ≡ detectors_of h d = t ∙ ap (λ (k : ℕ). k * (d - 1)) e in
       n ∙ ap (λ (k : ℕ). over k escapes old) f ∙ over-all escapes (detectors_of h d) old (omega arith)
 
+-- TESTS OF A PART
+
+module _ (f : ℕ → Bool) where
+  pub any-done : (i n : ℕ) (now : Bool) → now ≡ any i f → i ≤ n → n ≤ i → now ≡ any n f
+  any-done i n now p a b = let e : i ≡ n = omega arith in p ∙ ap (λ (k : ℕ). any k f) e
+
 -- a test as a byte
 pub bit-byte : (b : Bool) → bool_byte b ≡ bit b
 bit-byte true = refl
 bit-byte false = refl
 
 -- BITS TOGETHER
+
+-- an answer that tells nothing
+pub none_told : {A : Type 0} → false ≡ true → A
+none_told e = let v : ◌≡◌ {A = ℕ} 0 1 = cc in absurd (omega arith)
 
 -- numbers below 4 have no bit of a correction
 pub small-blank : (l : List ℕ) (at n m bits : ℕ) → n ≤ m → ((j : ℕ) → j < m → get_or l (at + j) 0 ≤ bits) → bits < 4 → any n (λ j. correction_of (get_or l (at + j) 0)) ≡ false
