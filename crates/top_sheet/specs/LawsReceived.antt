@@ -7,7 +7,8 @@ use Rattle.std.proofs.Math.Path.{refl, ap, subst}
 use Rattle.std.proofs.Math.Bool.{false}
 use mathlib.Core.List.{List}
 use Rattle.std.proofs.Math.Logic.{⊎_elim}
-use Rattle.std.specs.Int.Bits.{bit_or}
+use Rattle.std.specs.Int.Bits.{bit_or, or_add_and}
+use Rattle.std.proofs.lemmas.Nat.{and_le_l, and_le_r}
 use Rattle.std.specs.List.{fold, between}
 use Rattle.std.proofs.Math.Dec.{eqb}
 use Rattle.std.proofs.Math.ListN.{length, get_or, length-set}
@@ -26,6 +27,15 @@ use Rattle.top_sheet.specs.Received.{Received, place_of, put_one, put_from}
 pub block-blank : (l : List ℕ) (at n : ℕ) → at + n ≤ length l → fold bit_or 0 (between at (at + n) l) ≡ 0 → (i : ℕ) → i < n → get_or l (at + i) 0 ≡ 0
 block-blank l at n r e i h = let v = bits-most l at (at + n) r i (omega arith) in omega (arith, v, e)
 
+pub none-next : (l : List ℕ) (at i seen : ℕ) → (seen ≡ 0 → (j : ℕ) → j < i → get_or l (at + j) 0 ≡ 0) → bit_or seen (get_or l (at + i) 0) ≡ 0 → (j : ℕ) → j < i + 1 → get_or l (at + j) 0 ≡ 0
+none-next l at i seen v e j h =
+    let o = or_add_and seen (get_or l (at + i) 0) in
+    let p = and_le_l seen (get_or l (at + i) 0) in
+    let q = and_le_r seen (get_or l (at + i) 0) in
+    let a : seen ≡ 0 = omega (arith, o, p, q) in
+    let b : get_or l (at + i) 0 ≡ 0 = omega (arith, o, p, q) in
+    ⊎_elim (v a j) (λ y. let k : i ≡ j = omega arith in subst (λ (x : ℕ). get_or l (at + x) 0 ≡ 0) k b) (order j i)
+
 -- A LOOP'S TURNS
 module _ (d : ℕ) (bytes : List ℕ) where
   pub put-none : (from : ℕ) (l : List ℕ) → l ≡ put_from d bytes from 0 l
@@ -35,6 +45,9 @@ module _ (d : ℕ) (bytes : List ℕ) where
   pub put_next : (from i : ℕ) (l now next : List ℕ) → now ≡ put_from d bytes from i l → next ≡ put_one d (from + i) (get_or bytes (from + i) 0) now → next ≡ put_from d bytes from (i + 1) l
   unfolding put_from
   put_next from i l now next p q = q ∙ ap (λ (m : List ℕ). put_one d (from + i) (get_or bytes (from + i) 0) m) p ∙ rw (add-one i)
+
+  pub put-done : (from i n : ℕ) (l now : List ℕ) → now ≡ put_from d bytes from i l → i ≤ n → n ≤ i → now ≡ put_from d bytes from n l
+  put-done from i n l now p a b = let e : i ≡ n = omega arith in p ∙ ap (λ (k : ℕ). put_from d bytes from k l) e
 
   -- bytes that are 0 put nothing
   pub put-blank : (from n : ℕ) (l : List ℕ) → ((i : ℕ) → i < n → get_or bytes (from + i) 0 ≡ 0) → put_from d bytes from n l ≡ l
