@@ -8,9 +8,12 @@ use Rattle.flat.specs.Plan.{Plan}
 use Rattle.flat.specs.Step.{named, list_at}
 use Rattle.queue.specs.Queue.{Queue, Extends, Pushed, Inside, Opened}
 use Rattle.queue.specs.LawsTrues.{trues-set, queue-room}
-use Rattle.queue.specs.LawsNamed.{named_in, extends-named, extends-on}
+use Rattle.queue.specs.LawsNamed.{named_in, extends-none, extends-named, extends-on}
 
 module _ (x from count : ℕ) (lists : List ℕ) (queued : List Bool) (low : x < 4608) (half : from ≤ 9216) (q : Queue from count lists queued) where
+  pub pushed-before : get_or queued x false ≡ true → Pushed x from count count lists lists queued
+  pushed-before t = record { queue = q; extends = extends-none from count lists; self = q.known x t; places = λ n w p. p }
+
   module _ (t : get_or queued x false ≡ false) where
     abbrev new : List ℕ
     new = set lists (from + count) x
@@ -58,6 +61,10 @@ module _ (x from count : ℕ) (lists : List ℕ) (queued : List Bool) (low : x <
 -- OVER THE DIRECTIONS
 
 module _ (P : Plan) (growth : ℕ → ℕ) (x from count : ℕ) (old : List ℕ) where
+  pub opened-first : (more : ℕ) (lists : List ℕ) (queued : List Bool) → Pushed x from count more old lists queued → Opened P growth x 0 from more more lists lists queued
+  opened-first more lists queued p =
+      record { queue = p.queue; extends = extends-none from more lists; self = p.self; near = λ k h t. absurd (omega arith); places = λ n w s r. r }
+
   -- by what the code found: o is whether the edge at e is open
   module _ (k q : ℕ) (lists : List ℕ) (queued : List Bool) (r : Opened P growth x k from count q old lists queued) (e : ℕ) (o : Bool) (pe : e ≡ over_by x (P.slot k)) (po : o ≡ eqb (growth e) 2) where
     told : o ≡ eqb (growth (over_by x (P.slot k))) 2
@@ -102,3 +109,15 @@ module _ (P : Plan) (growth : ℕ → ℕ) (x from count : ℕ) (old : List ℕ)
           places = λ n w s u.
               p.places n (ap (λ (i : ℕ). within n i) pj ∙ s k (omega arith) (sym told ∙ not-false o t)) (r.places n w (fewer n s) u);
         }
+
+  -- all directions are passed
+  pub opened-all : (more most dirs k : ℕ) (lists lists' : List ℕ) (queued queued' : List Bool) → dirs ≤ k → k ≤ dirs → Pushed x from count more old lists queued
+      → Opened P growth x k from more most lists lists' queued' → Opened P growth x dirs from count most old lists' queued'
+  opened-all more most dirs k lists lists' queued queued' a b p r =
+      record {
+        queue = r.queue;
+        extends = extends-on from count more old lists p.extends most lists' r.extends;
+        self = r.self;
+        near = λ i h t. r.near i (omega arith) t;
+        places = λ n w s u. r.places n w (λ i h t. s i (omega arith) t) (p.places n w u);
+      }
