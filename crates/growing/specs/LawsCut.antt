@@ -38,10 +38,10 @@ module _ (table nodes marks : List ℕ) (b i at : ℕ) (now : List ℕ) where
   mark j = cut_mark falls (get_or nodes (b + j) 0) (get_or marks (b + j) 0)
 
   module _ (p : now ≡ stored b node i nodes) (told : at ≡ 128 + get_or now (b + i) 0 / 8) where
-    cut-node-next : (v : ℕ) → v ≡ if (eqb (get_or table at 0) 1) (get_or now (b + i) 0 % 8) (get_or now (b + i) 0) → set now (b + i) v ≡ stored b node (i + 1) nodes
+    pub cut-node-next : (v : ℕ) → v ≡ if (eqb (get_or table at 0) 1) (get_or now (b + i) 0 % 8) (get_or now (b + i) 0) → set now (b + i) v ≡ stored b node (i + 1) nodes
     cut-node-next v q = place-next b (λ j w. cut_node falls w) 0 nodes i now v p (q ∙ ap (λ (y : ℕ). if (eqb (get_or table y 0) 1) (get_or now (b + i) 0 % 8) (get_or now (b + i) 0)) told)
 
-    cut-mark-next : (old : List ℕ) (v : ℕ) → old ≡ stored b mark i marks → v ≡ if (eqb (get_or table at 0) 1) 65535 (get_or old (b + i) 0) → set old (b + i) v ≡ stored b mark (i + 1) marks
+    pub cut-mark-next : (old : List ℕ) (v : ℕ) → old ≡ stored b mark i marks → v ≡ if (eqb (get_or table at 0) 1) 65535 (get_or old (b + i) 0) → set old (b + i) v ≡ stored b mark (i + 1) marks
     cut-mark-next old v m q =
         let e : at ≡ 128 + get_or nodes (b + i) 0 / 8 = told ∙ ap (λ (l : List ℕ). 128 + get_or l (b + i) 0 / 8) p ∙ ap (λ (w : ℕ). 128 + w / 8) (stored-behind b node i nodes 0 (b + i) (omega arith)) in
         place-next b (λ j w. cut_mark falls (get_or nodes (b + j) 0) w) 0 marks i old v m (q ∙ ap (λ (y : ℕ). if (eqb (get_or table y 0) 1) 65535 (get_or old (b + i) 0)) e)

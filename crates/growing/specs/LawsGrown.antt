@@ -8,7 +8,7 @@ use Rattle.shape.specs.Choice.{if, if-true, if-false, whether}
 use Rattle.window.specs.Lists.{bit}
 use Rattle.flat.specs.Codes.{growth_of, correction_of, no_edge}
 use Rattle.flat.specs.Entries.{planes, within, over_by}
-use Rattle.flat.specs.Bounds.{edge-low}
+use Rattle.flat.specs.Bounds.{edge-low, node-low}
 use Rattle.flat.specs.LawsEntries.{inside}
 use Rattle.flat.specs.Plan.{Plan, plan_of, Safe}
 use Rattle.flat.specs.Step.{named, list_at}
@@ -239,5 +239,13 @@ module _ (P : Plan) (n k : ℕ) (list list' : ℕ → ℕ) (listed : ℕ) (edges
       (λ c. all_more P list listed k c ∙ ap (λ (y : ℕ). hits_of P list listed k c + y) (hits-same (edges_of P list k) (edges_of P list' k) listed c c (λ i l. ap (λ (y : ℕ). eqb (over_by y (P.slot k)) c) (sym (p i l))))) R S
 
 -- WHAT IS READ stands in the arrays
-pub edge_in_lem : (z : Sizes) (table : List ℕ) → Safe z table → (x k : ℕ) → within z.nodes x ≡ true → k < z.dirs → over_by x ((plan_of z table).slot k) < planes
-edge_in_lem z table S x k w l = let r = inside z.nodes x w in let d = S.dirs in edge-low z table S x k r.0 r.1 (omega arith)
+
+module _ (z : Sizes) (table : List ℕ) (S : Safe z table) (x k : ℕ) (w : within z.nodes x ≡ true) (l : k < z.dirs) where
+  pub node-bounds : (512 ≤ x) × (x < 4608)
+  node-bounds = let r = inside z.nodes x w in let r1 = r.1 in let s = S.nodes in (r.0, omega arith)
+
+  pub edge_in_lem : over_by x ((plan_of z table).slot k) < planes
+  edge_in_lem = let r = inside z.nodes x w in let d = S.dirs in edge-low z table S x k r.0 r.1 (omega arith)
+
+  pub node_in_lem : over_by x ((plan_of z table).off k) < 4608
+  node_in_lem = let r = inside z.nodes x w in let d = S.dirs in node-low z table S x k r.0 r.1 (omega arith)

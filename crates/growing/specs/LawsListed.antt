@@ -1,8 +1,9 @@
 -- Laws of the list of active nodes: a loop's start and its turns. Assumes nothing.
-use Rattle.std.specs.Prelude.{ℕ, ◌+◌, ◌-◌, ◌≤◌, ◌<◌, ◌≡◌, true, false, List, length, get_or, set}
+use Rattle.std.specs.Prelude.{ℕ, zero, suc, ◌+◌, ◌-◌, ◌≤◌, ◌<◌, ◌≡◌, refl, Bool, true, false, List, length, get_or, set}
 use Rattle.std.proofs.Common.{arith, ap, sym, ◌∙◌, subst, ⊎_elim, eq-eqb, length-set, get_or-set_same, get_or-set_other}
 use Rattle.refusal.specs.Laws.{undone}
-use Rattle.shape.specs.Choice.{order}
+use Rattle.shape.specs.Choice.{whether, order}
+use Rattle.window.specs.Lists.{any}
 use Rattle.flat.specs.Codes.{active_of}
 use Rattle.flat.specs.Entries.{within}
 use Rattle.flat.specs.LawsEntries.{inside, within_by}
@@ -10,10 +11,41 @@ use Rattle.flat.specs.Step.{active_at}
 use Rattle.queue.specs.LawsNamed.{named_in, named-longer}
 use Rattle.growing.specs.Grown.{Actives}
 
+-- a test that fails for some fails for each
+pub any-each : (f : ℕ → Bool) (n i : ℕ) → any n f ≡ false → i < n → f i ≡ false
+unfolding any
+any-each f zero i e l = absurd (omega arith)
+any-each f (suc n) i e l =
+    whether (any n f)
+    (λ t. absurd (undone (rw t at e)))
+    (λ t.
+    let g : f n ≡ false = rw t at e in
+    ⊎_elim (λ h. any-each f n i t h) (λ h. let q : i ≡ n = omega arith in rw q g) (order i n))
+
+pub any-done : (f : ℕ → Bool) (i n : ℕ) (now : Bool) → now ≡ any i f → i ≤ n → n ≤ i → now ≡ any n f
+any-done f i n now p a b = let e : i ≡ n = omega arith in p ∙ ap (λ (k : ℕ). any k f) e
+
 within_more : (n m x : ℕ) → n ≤ m → within n x ≡ true → within m x ≡ true
 within_more n m x l t = let r = inside n x t in let r0 = r.0 in let r1 = r.1 in within_by m x r0 (omega arith)
 
+pub actives-none : (nodes lists : List ℕ) → Actives 0 nodes 0 lists lists
+actives-none nodes lists =
+    record {
+      few = omega arith;
+      long = refl;
+      places = λ i l. absurd (omega arith);
+      active = λ i l. absurd (omega arith);
+      rise = λ i j l m. absurd (omega arith);
+      all = λ x w t. absurd (let r = inside 0 x w in let r0 = r.0 in let r1 = r.1 in omega arith);
+      before = λ i l. refl;
+    }
+
 module _ (n : ℕ) (nodes : List ℕ) (count : ℕ) (old lists : List ℕ) (A : Actives n nodes count old lists) where
+  -- by itself, and from an older list on
+  pub actives-here : Actives n nodes count lists lists
+  actives-here =
+      record { few = A.few; long = refl; places = A.places; active = A.active; rise = A.rise; all = A.all; before = λ i l. refl }
+
   pub actives-on : (m more : ℕ) (lists' : List ℕ) → Actives m nodes more lists lists' → Actives m nodes more old lists'
   actives-on m more lists' B =
       record {
@@ -25,6 +57,9 @@ module _ (n : ℕ) (nodes : List ℕ) (count : ℕ) (old lists : List ℕ) (A : 
         all = B.all;
         before = λ i l. B.before i l ∙ A.before i l;
       }
+
+  pub actives-all : (m : ℕ) → n ≤ m → m ≤ n → Actives m nodes count old lists
+  actives-all m a b = let e : n ≡ m = omega arith in rw e at A
 
   -- none of the next m is active
   pub actives-idle : (m : ℕ) → ((i : ℕ) → i < m → active_of (get_or nodes (512 + n + i) 0) ≡ false) → Actives (n + m) nodes count old lists
@@ -113,3 +148,10 @@ module _ (first i : ℕ) (nodes : List ℕ) (count : ℕ) (old lists : List ℕ)
       subst (λ (n : ℕ). Actives n nodes count old lists) onward
       (actives-idle (first + i) nodes count old lists A 1
       (λ j h. let e : 512 + (first + i) + j ≡ x = omega arith in ap (λ (y : ℕ). active_of (get_or nodes y 0)) e ∙ f))
+
+-- a part with no active node
+pub part-idle : (n m at : ℕ) (nodes : List ℕ) (count : ℕ) (old lists : List ℕ) → Actives n nodes count old lists → m ≤ 64 → at ≡ 512 + n → any 64 (λ i. active_of (get_or nodes (at + i) 0)) ≡ false
+    → Actives (n + m) nodes count old lists
+part-idle n m at nodes count old lists A l p f =
+    actives-idle n nodes count old lists A m
+    (λ i h. let e : 512 + n + i ≡ at + i = omega arith in ap (λ (y : ℕ). active_of (get_or nodes y 0)) e ∙ any-each (λ i. active_of (get_or nodes (at + i) 0)) 64 i f (omega arith))
