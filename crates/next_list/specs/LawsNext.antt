@@ -6,8 +6,8 @@ use Rattle.flat.specs.Entries.{State, within, over_by}
 use Rattle.flat.specs.Plan.{Plan}
 use Rattle.flat.specs.Rule.{stirs}
 use Rattle.flat.specs.Step.{named, list_at, sending, Follows}
-use Rattle.queue.specs.Queue.{Extends, Inside, Opened}
-use Rattle.queue.specs.LawsNamed.{extends-named, extends-on}
+use Rattle.queue.specs.Queue.{Queue, Extends, Inside, Opened}
+use Rattle.queue.specs.LawsNamed.{extends-none, extends-named, extends-on}
 use Rattle.next_list.specs.Next.{Next}
 
 -- lists that lie apart: what is written to the one does not change the other
@@ -16,6 +16,16 @@ pub apart-kept : (from to more : ℕ) (old lists : List ℕ) → (from + 4608 �
 apart-kept from to more old lists apart e i h = ⊎_elim (λ a. e.kept (from + i) (omega arith)) (λ a. e.behind (from + i) (omega arith)) apart
 
 module _ (P : Plan) (growth : ℕ → ℕ) (n : ℕ) (list : ℕ → ℕ) (stirred : ℕ → Bool) (to : ℕ) (old : List ℕ) where
+  pub next-none : (queued : List Bool) → Queue to 0 old queued → Next P growth n list stirred 0 to 0 old old queued
+  next-none queued q =
+      record {
+        queue = q;
+        extends = extends-none to 0 old;
+        places = λ i h. absurd (omega arith);
+        self = λ i h t. absurd (omega arith);
+        near = λ i k h l t o. absurd (omega arith);
+      }
+
   module _ (i more : ℕ) (lists : List ℕ) (queued : List Bool) (r : Next P growth n list stirred i to more old lists queued) where
     -- a node that does not stir
     pub next-quiet : stirred i ≡ false → Next P growth n list stirred (i + 1) to more old lists queued
