@@ -1,5 +1,5 @@
 -- LISTS MADE BY A LOOP that pushes some nodes: the list at 0 names what was pushed, and all that it named. Assumes nothing.
-use Rattle.std.specs.Prelude.{ℕ, ◌+◌, ◌-◌, ◌<◌, ◌≡◌, Bool, true, false, List, eqb}
+use Rattle.std.specs.Prelude.{ℕ, ◌+◌, ◌-◌, ◌≤◌, ◌<◌, ◌≡◌, Bool, true, false, List, eqb}
 use Rattle.std.proofs.Common.{arith, sym, ◌∙◌, ap, subst, ⊎_elim}
 use Rattle.refusal.specs.Laws.{undone}
 use Rattle.shape.specs.Choice.{whether, order}
@@ -52,6 +52,9 @@ module _ (n start : ℕ) (old : List ℕ) where
     enlisted-none queued q p = record { listing = none-listed queued q p; names = λ j l. absurd (omega arith) }
 
     module _ (i q : ℕ) (lists : List ℕ) (queued : List Bool) (E : Enlisted n start old test x i q lists queued) where
+      pub enlisted-all : (m : ℕ) → i ≤ m → m ≤ i → Enlisted n start old test x m q lists queued
+      enlisted-all m a b = let e : i ≡ m = omega arith in rw e at E
+
       pub enlisted-past : test i ≡ false → Enlisted n start old test x (i + 1) q lists queued
       enlisted-past f =
           record {
@@ -106,6 +109,9 @@ module _ (n start : ℕ) (old : List ℕ) where
     spread_none queued q p = record { listing = none-listed queued q p; self = λ j l. absurd (omega arith); near = λ j k l. absurd (omega arith) }
 
     module _ (i q : ℕ) (lists : List ℕ) (queued : List Bool) (E : Spread P growth n start old test x i q lists queued) where
+      pub spread-all : (m : ℕ) → i ≤ m → m ≤ i → Spread P growth n start old test x m q lists queued
+      spread-all m a b = let e : i ≡ m = omega arith in rw e at E
+
       pub spread-past : test i ≡ false → Spread P growth n start old test x (i + 1) q lists queued
       spread-past f =
           record {
