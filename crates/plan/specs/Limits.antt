@@ -1,6 +1,6 @@
 -- No number of the table wraps. Assumes nothing.
 use Prim.Native.Nat.{ℕ, zero, suc, ◌+◌, ◌-◌, ◌*◌, ◌≤◌, ◌<◌}
-use Rattle.std.proofs.Common.{mul-le-mul, mul-le-mul_right, add-one, leb-true}
+use Rattle.std.proofs.Common.{mul-le-mul, mul-le-mul_right, add-one, ◌∙◌, leb-true}
 use native.Mathlib.Omega.{arith}
 use Rattle.std.specs.Prelude.{◌≡◌, Bool, true, false, leb, length}
 use Rattle.std.proofs.Math.Path.{refl}
@@ -119,27 +119,30 @@ module _ (T : Table) (room : Roomy T) (kind : ℕ) where
 
 -- ROWS, counted through all sheets
 
-pub record RowLow (d r bound inner : ℕ) : Type 0 where
+pub record RowLow (d n r bound inner : ℕ) : Type 0 where
   pub entry : r * (d + 1) ≤ 3600
   pub low : r * 2 ≤ 450
   pub high : r * inner ≤ 3375
   pub wide : d ≤ 15
   pub first : 1 ≤ bound
   pub few : bound ≤ 480
+  pub count : n ≤ 225
+  pub columns : inner ≤ 15
 
-pub row_low : (h d s r bound inner : ℕ) → in_range h d ≡ true → s ≡ sheets_of d → bound ≡ boundary_nodes h d → inner ≡ d - 1 → r ≤ h * s → RowLow d r bound inner
-row_low h d s r bound inner ok es eb ei l =
+pub row_low : (h d n r bound inner d' h' s' : ℕ) → in_range h d ≡ true → h' ≡ h → s' ≡ sheets_of d → n ≡ h' * s' → bound ≡ boundary_nodes h d → inner ≡ d - 1 → d' ≡ d → r ≤ n → RowLow d' n r bound inner
+row_low h d n r bound inner d' h' s' ok eh es en' eb ei ed l =
+    let en : n ≡ h * sheets_of d = en' ∙ rw (eh, es) in
     let R = ranged h d ok in
     let x = R.h-max in
     let y = R.d-max in
     let u = R.h1 in
-    let t : s ≤ 15 = omega (arith, es, sheets-le d y) in
-    let c : h * s ≤ 225 = mul-le-mul {n₂ = 15} {m₂ = 15} x t in
+    let s = sheets-le d y in
+    let c : h * sheets_of d ≤ 225 = mul-le-mul {n₂ = 15} {m₂ = 15} x s in
     let a : r ≤ 225 = omega arith in
-    let w : d + 1 ≤ 16 = omega arith in
+    let w : d' + 1 ≤ 16 = omega arith in
     let i : inner ≤ 15 = omega arith in
     let p : 2 * h ≤ 30 = omega arith in
-    let q : sheets_of d + 1 ≤ 16 = omega (arith, sheets-le d y) in
+    let q : sheets_of d + 1 ≤ 16 = omega arith in
     let b : 2 * h * (sheets_of d + 1) ≤ 480 = mul-le-mul {n₂ = 30} {m₂ = 16} p q in
     let p' : 2 ≤ 2 * h = omega arith in
     let q' : 1 ≤ sheets_of d + 1 = omega arith in
@@ -151,7 +154,12 @@ row_low h d s r bound inner ok es eb ei l =
       wide = omega arith;
       first = omega arith;
       few = omega arith;
+      count = omega arith;
+      columns = i;
     }
+
+pub bound-low : (h d : ℕ) → in_range h d ≡ true → boundary_nodes h d ≤ 480
+bound-low h d ok = (row_low h d (h * sheets_of d) 0 (boundary_nodes h d) (d - 1) d h (sheets_of d) ok refl refl refl refl refl refl (omega arith)).few
 
 -- rows of one sheet
 pub sheet-low : (h d r : ℕ) → in_range h d ≡ true → r ≤ h → r * (d + 1) ≤ 240

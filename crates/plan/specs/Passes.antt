@@ -1,7 +1,7 @@
 -- ONE PASS AFTER ANOTHER over an array, each of which leaves what the others stored; and blocks of entries, one after the other.
 -- Assumes nothing.
 use Prim.Native.Nat.{ℕ, zero, suc, ◌+◌, ◌*◌, ◌≤◌, ◌<◌}
-use Rattle.std.proofs.Common.{add-mul, one-mul, mul-le-mul_right, ◌∙◌}
+use Rattle.std.proofs.Common.{add-mul, one-mul, zero-mul, mul-le-mul_right, ◌∙◌}
 use Rattle.std.proofs.Math.Numerals.{add-one}
 use native.Mathlib.Omega.{arith}
 use Rattle.std.specs.Prelude.{◌≡◌, List, get_or, length}
@@ -52,8 +52,15 @@ module _ {ℓ} {A : Type ℓ} (f : ℕ → List A → List A) where
 
 -- BLOCKS
 
-next_row : (i w : ℕ) → (i + 1) * w ≡ i * w + w
+pub next_row : (i w : ℕ) → (i + 1) * w ≡ i * w + w
 next_row i w = rw (add-mul, one-mul)
+
+-- a loop's start and its turn: where the next block begins
+pub rows_start : (b w : ℕ) → b ≡ b + 0 * w
+rows_start b w = rw zero-mul (omega arith)
+
+pub rows_next : (b w x i : ℕ) → x ≡ b + i * w → x + w ≡ b + (i + 1) * w
+rows_next b w x i e = omega (arith, next_row i w)
 
 -- a later row lies behind
 pub row-after : (i j w : ℕ) → i < j → i * w + w ≤ j * w
@@ -69,6 +76,11 @@ module _ {ℓ} {A : Type ℓ} (b w : ℕ) (f : ℕ → ℕ → A) (n : ℕ) (z :
 
   pub blocks-next : (l : List A) (i : ℕ) (now next : List A) (x : ℕ) (g : ℕ → A) → x ≡ b + i * w → g ≡ f i → now ≡ blocks b w f n i l → next ≡ stored x g n now → next ≡ blocks b w f n (i + 1) l
   blocks-next l i now next x g e q p t = passes-next (λ i. stored (b + i * w) (f i) n) l i now next p (t ∙ rw (e, q))
+
+  -- the same by other names
+  pub blocks-are : (w' : ℕ) (f' : ℕ → ℕ → A) (n' k k' : ℕ) (l now : List A) → w ≡ w' → f ≡ f' → n ≡ n' → k ≡ k' → now ≡ blocks b w f n k l → now ≡ blocks b w' f' n' k' l
+  blocks-are w' f' n' k k' l now p q r t e =
+      e ∙ ap (λ (x : ℕ). blocks b x f n k l) p ∙ ap (λ (x : ℕ → ℕ → A). blocks b w' x n k l) q ∙ ap (λ (x : ℕ). blocks b w' f' x k l) r ∙ ap (λ (x : ℕ). blocks b w' f' n' x l) t
 
   pub blocks_at : (k : ℕ) (l : List A) (i j : ℕ) → n ≤ w → i < k → j < n → b + k * w ≤ length l → get_or (blocks b w f n k l) (b + i * w + j) z ≡ f i j
   blocks_at k l i j fit low here room =

@@ -18,7 +18,7 @@ use Rattle.plan.proofs.places_kind.Goals as goal
 
 low : (sh : Shape) (kind : ℕ) (a : Area) (m n : ℕ) → in_range sh.height sh.distance ≡ true → a ≡ area_of sh.height sh.distance (named (of_model sh.model) kind) → n ≡ a.right - a.left → m ≡ a.bottom - a.top → PlacesLow a.top a.left m n (sh.distance + 1)
 low sh kind a m n ok ea en em =
-    places-low sh.height sh.distance (named (of_model sh.model) kind) ok (small-named (of_model sh.model) (roomy-model sh.model) kind) a m n ea en em
+    places-low sh.height sh.distance (named (of_model sh.model) kind) ok (small-named (of_model sh.model) (roomy-model sh.model) kind) a m n sh.distance ea en em refl
 
 pub overflow_mul-corner-2 : goal.overflow_mul-corner-2
 overflow_mul-corner-2 c = let L = low c.args.shape c.args.kind _ _ _ c.requires.distance_value c.of-area.ensures c.columns-n.ensures c.rows-m.ensures in omega (arith, L.first)
