@@ -1,5 +1,6 @@
 -- A WINDOW'S EDGES, as loops over kinds and sheets write them. Assumes nothing.
-use Rattle.std.specs.Prelude.{ℕ, ◌+◌, ◌-◌, ◌*◌, ◌%◌, Bool, false, List, eqb, get_or}
+use Rattle.std.specs.Prelude.{ℕ, ◌+◌, ◌-◌, ◌*◌, ◌%◌, ◌≤◌, ◌<◌, ◌≡◌, Bool, false, List, eqb, get_or}
+use Rattle.std.proofs.Common.{add-mul, one-mul, mul-le-mul, mul-le-mul_right, arith}
 use Rattle.shape.specs.Choice.{if}
 use Rattle.steps.specs.Steps.{slot_in}
 use Rattle.flat.specs.Codes.{no_edge, edge_code}
@@ -20,3 +21,22 @@ abbrev pub kind_on : ℕ → ℕ → ℕ → List ℕ → List Bool → List ℕ
 kind_on n sheet there growth correction table kind l =
     let first = get_or table (160 + kind) 0 in
     blocks (kind * plane + margin + first * sheet) sheet (λ k. sheet_rule growth correction table (plane + 240 * kind) (slot_in n kind (first * sheet) + k * sheet)) sheet (there - first) l
+
+-- NO NUMBER WRAPS
+
+pub record KindLow (nodes n first k kind : ℕ) : Type 0 where
+  pub sheets : k * n + first * n + n ≤ 3600
+  pub slots : nodes * kind ≤ 18000
+
+pub first-low : (n first : ℕ) → n ≤ 240 → first ≤ 1 → first * n ≤ 240
+first-low n first a b = mul-le-mul {n₂ = 1} {m₂ = 240} b a
+
+pub slots-low : (nodes kind : ℕ) → kind < 6 → nodes ≤ 3600 → nodes * kind ≤ 18000
+slots-low nodes kind a b = let c : kind ≤ 5 = omega arith in mul-le-mul {n₂ = 3600} {m₂ = 5} b c
+
+pub kind-low : (nodes n there first k kind : ℕ) → kind < 6 → nodes ≤ 3600 → there * n ≤ nodes → k + first < there → KindLow nodes n first k kind
+kind-low nodes n there first k kind a b c l =
+    let e : k + first + 1 ≤ there = omega arith in
+    let f = mul-le-mul_right n e in
+    let g : (k + first + 1) * n ≡ k * n + first * n + n = rw (add-mul, add-mul, one-mul) in
+    record { sheets = omega arith; slots = slots-low nodes kind a b }

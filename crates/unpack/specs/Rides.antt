@@ -1,7 +1,8 @@
 -- WHETHER POINTERS RIDE, as a loop over the arrays tells. Assumes nothing.
-use Rattle.std.specs.Prelude.{ℕ, zero, suc, ◌+◌, ◌-◌, ◌≡◌, Bool, ◌&&◌, ◌||◌, List, [], leb, eqb, get_or}
+use Rattle.std.specs.Prelude.{ℕ, zero, suc, ◌+◌, ◌-◌, ◌≤◌, ◌≡◌, Bool, ◌&&◌, ◌||◌, List, [], leb, eqb, get_or}
 use Rattle.std.specs.List.{list_all, range_with_len}
-use Rattle.std.proofs.Common.{arith, sym, ◌∙◌, ap}
+use Rattle.std.proofs.Common.{add-one, arith, sym, ◌∙◌, ap, ⊎_elim}
+use Rattle.shape.specs.Choice.{order}
 use Rattle.std.proofs.Math.Bool.{and-true, and_assoc}
 use Rattle.std.proofs.Math.Path.{refl}
 use Rattle.window.specs.Lists.{every}
@@ -50,3 +51,15 @@ every-range f g (suc n) a h =
 
     next : (i : ℕ) → a + 1 + i ≡ a + suc i
     next i = omega arith
+
+-- laws of loops, kept for readers
+pub rides-by : (leaving : Bool) (bottom : ℕ) (nodes edges table : List ℕ) (x p : ℕ) (r : Bool) → p ≡ pointer_of (get_or nodes x 0) → r ≡ rides_by edges table x p
+    → ((leaving && out_by table bottom x p) || r) ≡ rides_out leaving bottom nodes edges table x
+rides-by leaving bottom nodes edges table x p r e f = rw (f, e)
+
+pub every-next : (f : ℕ → Bool) (i : ℕ) (b v : Bool) → b ≡ every i f → v ≡ f i → (b && v) ≡ every (i + 1) f
+unfolding every
+every-next f i b v p q = rw (p, q, add-one)
+
+pub some : (p : ℕ) → (p ≡ 0 → ⊥) → 1 ≤ p
+some p f = ⊎_elim (λ l. l) (λ l. absurd (f (omega arith))) (order 0 p)

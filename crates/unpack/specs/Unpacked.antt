@@ -33,7 +33,7 @@ use Rattle.shows.specs.Sinks.{rises}
 use Rattle.shows.specs.There.{starts_at}
 use Rattle.shows.proofs.There.{there-is}
 use Rattle.shows.specs.Written.{Written}
-use Rattle.plan.specs.Filled.{Filled}
+use Rattle.plan.specs.Filled.{Filled, sheet-most}
 use Rattle.plan.specs.Table.{sizes_of, fresh_by}
 use Rattle.plan.specs.Passes.{passes, row-after, length-passes, length-blocks, passes_at, passes-other, blocks_at, blocks-before, blocks-behind}
 use Rattle.unpack.specs.Edges.{edge_by, sheet_rule, kind_on}
@@ -309,13 +309,13 @@ module _ (T : Table) (S : Suited T) (w : Window) (F : Facts T w) (table : List �
 
   -- what the loop over the kinds asks
   pub asked : (z : Sizes) (there' : ℕ) → z ≡ sizes_of T h d → there' ≡ there
-      → (there' * z.sheet ≤ z.nodes) × ((kind : ℕ) → kind < z.kinds → get_or table (160 + kind) 0 ≤ 1) × (there' ≤ 15)
+      → (z.kinds ≤ 6) × (z.nodes ≤ 3600) × (z.sheet ≤ 240) × (there' * z.sheet ≤ z.nodes) × ((kind : ℕ) → kind < z.kinds → get_or table (160 + kind) 0 ≤ 1) × (there' ≤ 15)
   asked z there' ez et =
       let r = F.ranged in
       let y = r.d-max in
       let m = there-most in
       let l = sheets-le d y in
-      rw (ez, et) (all_there, first-le, omega arith)
+      rw (ez, et) (room, few, sheet-most h d (in-range h d r), all_there, first-le, omega arith)
     where
       all_there : there * sheet ≤ n
       all_there = let a = sheets-within 0 (omega arith) in let e : 0 + (there - 0) ≡ there = omega arith in rw e at a

@@ -36,7 +36,8 @@ store-requires c = let w = c.args.w.now in let l = c.args.laid.now in let T = of
 
 pub edges_kinds-requires : goal.edges_kinds-requires
 edges_kinds-requires c = let w = c.args.w.now in let l = c.args.laid.now in let T = of_model w.shape.model in let e = c.requires.shape_value in
-    asked T (suited-model w.shape.model) w (facts T w c.requires.w_value) l.layout.table (filled w l e) (roomy-model w.shape.model).kinds l.layout.sizes c.present.result (sizes w l e) c.present.ensures
+    let r = asked T (suited-model w.shape.model) w (facts T w c.requires.w_value) l.layout.table (filled w l e) (roomy-model w.shape.model).kinds l.layout.sizes c.present.result (sizes w l e) c.present.ensures in
+    (r.3, r.4, r.5)
 
 pub returns : goal.returns
 returns c = let w = c.args.w.now in let l = c.args.laid.now in let T = of_model w.shape.model in let e = c.requires.shape_value in
