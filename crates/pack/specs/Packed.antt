@@ -1,6 +1,6 @@
 -- A WINDOW'S EDGES from the machine's, kind by kind. Assumes nothing.
 use Prim.Native.Nat.{ℕ, zero, suc, ◌+◌, ◌*◌, ◌≤◌, ◌<◌}
-use Rattle.std.proofs.Common.{mul-le-mul, zero-add, mul-add, mul-one, sym, ◌∙◌, ap₂}
+use Rattle.std.proofs.Common.{mul-le-mul, zero-add, mul-add, mul-one, mul_comm, sym, ◌∙◌, ap₂}
 use native.Mathlib.Omega.{arith}
 use Rattle.std.specs.Prelude.{◌≡◌, Bool, false, List, get_or, replicate}
 use Rattle.std.proofs.Math.Path.{ap}
@@ -85,6 +85,10 @@ module _ {ℓ} {A : Type ℓ} (v : ℕ → A) (n kind : ℕ) (l : List A) where
 pub slots-low : (n kind : ℕ) → n ≤ 3600 → kind < 6 → n * kind + n ≤ 21600
 slots-low n kind a b = let c : kind + 1 ≤ 6 = omega arith in let e = mul-add n kind 1 in let f = mul-one n in let g : n * (kind + 1) ≤ 21600 = mul-le-mul {n₂ = 3600} {m₂ = 6} a c in omega arith
 
+-- all kinds
+pub kinds-are : (T : Table) (n kinds : ℕ) → kinds ≡ T.kinds → n * kinds ≡ T.kinds * n
+kinds-are T n kinds e = rw e (mul_comm n T.kinds)
+
 -- THE WINDOW
 
 abbrev pub node_rule : List ℕ → List ℕ → ℕ → Node
@@ -94,22 +98,27 @@ abbrev window : Shape → Stage → ℕ → List Bool → List Node → List ℕ
 window sh stage next measured nodes growth correction =
     record { shape = sh; stage = stage; next = next; nodes = nodes; growth = growth; correction = correction; measured = measured }
 
-pub packed : (sh : Shape) (stage : Stage) (next : ℕ) (measured : List Bool) (nodes marks edges : List ℕ) (n : ℕ) (all : List Node) (growth : List ℕ) (bits : List Bool)
+pub packed : (sh : Shape) (stage : Stage) (next : ℕ) (measured : List Bool) (nodes marks edges : List ℕ) (n g : ℕ) (all : List Node) (growth : List ℕ) (bits : List Bool)
+    → n ≡ nodes_of sh.height sh.distance → g ≡ n → all ≡ over g (node_rule nodes marks) (replicate 3600 unused) → growth ≡ growths_on (of_model sh.model) n edges (replicate 21600 0) → bits ≡ bits_on (of_model sh.model) n edges (replicate 21600 false)
+    → window sh stage next measured all growth bits ≡ window_of (of_model sh.model) sh stage next measured (state_of nodes marks edges)
+unfolding window_of
+packed sh stage next measured nodes marks edges n g all growth bits e f a b c =
+    let m = nodes_of sh.height sh.distance in
+    let slots : 21600 ≡ slots_of (of_model sh.model) = sym (slots-model sh.model) in
+    ap (λ (x : List Node). window sh stage next measured x growth bits) (a ∙ ap (λ (k : ℕ). over k (node_rule nodes marks) (replicate 3600 unused)) (f ∙ e))
+    ∙ ap (λ (x : List ℕ). window sh stage next measured (over m (node_rule nodes marks) (replicate 3600 unused)) x bits) (b ∙ ap (λ (k : ℕ). growths_on (of_model sh.model) k edges (replicate 21600 0)) e)
+    ∙ ap (λ (x : List Bool). window sh stage next measured (over m (node_rule nodes marks) (replicate 3600 unused)) (growths_on (of_model sh.model) m edges (replicate 21600 0)) x) (c ∙ ap (λ (k : ℕ). bits_on (of_model sh.model) k edges (replicate 21600 false)) e)
+    ∙ ap (λ (k : ℕ). window sh stage next measured (over m (node_rule nodes marks) (replicate 3600 unused)) (growths_on (of_model sh.model) m edges (replicate k 0)) (bits_on (of_model sh.model) m edges (replicate k false))) slots
+
+-- nodes that are stored one after the other
+pub packed-stored : (sh : Shape) (stage : Stage) (next : ℕ) (measured : List Bool) (nodes marks edges : List ℕ) (n : ℕ) (all : List Node) (growth : List ℕ) (bits : List Bool)
     → n ≡ nodes_of sh.height sh.distance → all ≡ stored 0 (node_rule nodes marks) n (replicate 3600 unused)
     → growth ≡ growths_on (of_model sh.model) n edges (replicate 21600 0)
     → bits ≡ bits_on (of_model sh.model) n edges (replicate 21600 false)
     → window sh stage next measured all growth bits ≡ window_of (of_model sh.model) sh stage next measured (state_of nodes marks edges)
-unfolding window_of
-packed sh stage next measured nodes marks edges n all growth bits e a b c =
-    let m = nodes_of sh.height sh.distance in
-    let T = of_model sh.model in
-    let slots : 21600 ≡ slots_of T = sym (slots-model sh.model) in
+packed-stored sh stage next measured nodes marks edges n all growth bits e a b c =
     let few : 0 + n ≤ length (replicate 3600 unused) = omega (arith, e, nodes-max sh.height sh.distance, length-replicate 3600 unused) in
-    let behind : ◌≡◌ {A = ℕ} (0 + n) m = omega (arith, e) in
-    let nodes-are = a ∙ ap (stored 0 (node_rule nodes marks) n) (sym (over_none (node_rule nodes marks) (replicate 3600 unused)))
-    ∙ stored-over (node_rule nodes marks) (node_rule nodes marks) 0 (replicate 3600 unused) n (λ i l. ap (node_rule nodes marks) (sym (zero-add i))) few
-    ∙ ap (λ (k : ℕ). over k (node_rule nodes marks) (replicate 3600 unused)) behind in
-    ap (λ (x : List Node). window sh stage next measured x growth bits) nodes-are
-    ∙ ap (λ (x : List ℕ). window sh stage next measured (over m (node_rule nodes marks) (replicate 3600 unused)) x bits) (b ∙ ap (λ (k : ℕ). growths_on T k edges (replicate 21600 0)) e)
-    ∙ ap (λ (x : List Bool). window sh stage next measured (over m (node_rule nodes marks) (replicate 3600 unused)) (growths_on T m edges (replicate 21600 0)) x) (c ∙ ap (λ (k : ℕ). bits_on T k edges (replicate 21600 false)) e)
-    ∙ ap (λ (k : ℕ). window sh stage next measured (over m (node_rule nodes marks) (replicate 3600 unused)) (growths_on T m edges (replicate k 0)) (bits_on T m edges (replicate k false))) slots
+    packed sh stage next measured nodes marks edges n (0 + n) all growth bits e (zero-add n)
+    (a ∙ ap (stored 0 (node_rule nodes marks) n) (sym (over_none (node_rule nodes marks) (replicate 3600 unused)))
+    ∙ stored-over (node_rule nodes marks) (node_rule nodes marks) 0 (replicate 3600 unused) n (λ i l. ap (node_rule nodes marks) (sym (zero-add i))) few)
+    b c

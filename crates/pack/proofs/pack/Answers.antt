@@ -4,7 +4,7 @@ use Rattle.std.proofs.iter.Serving.{serving}
 use mathlib.Core.Path.{◌∙◌, ap}
 use Prim.Native.Nat.{◌≤◌}
 use native.Mathlib.Omega.{arith}
-use Rattle.pack.specs.Packed.{node_rule, packed}
+use Rattle.pack.specs.Packed.{node_rule, packed-stored}
 use Rattle.flat.specs.Stored.{stored}
 use Rattle.shape.proofs.LawsIndex.{nodes-max}
 use Rattle.window.specs.declared.Node.{Node}
@@ -17,6 +17,6 @@ store-requires c = let few = nodes-max c.args.shape.height c.args.shape.distance
 
 pub returns : goal.returns
 returns c = let a = c.args in let s = a.arrays.now in
-    packed a.shape a.stage a.next a.measured s.nodes s.marks s.edges c.nodes-n.result _ _ _ c.nodes-n.ensures
+    packed-stored a.shape a.stage a.next a.measured s.nodes s.marks s.edges c.nodes-n.result _ _ _ c.nodes-n.ensures
     (c.store.ensures (node_rule s.nodes s.marks) (λ i v l p. search rules) ∙ ap (λ (x : Node). stored 0 (node_rule s.nodes s.marks) c.nodes-n.result (replicate 3600 x)) c.alone-nodes.ensures)
     c.edge_slots.ensures.growth c.edge_slots.ensures.correction
