@@ -69,7 +69,7 @@ committed-bits table edges n l e = bits_of (λ i. correction_of (get_or edges (p
 pub escaped-bits : (z : Sizes) (h d : ℕ) (nodes l : List ℕ) → l ≡ escaped_in z h d nodes → Bits (detectors_of h d) l
 escaped-bits z h d nodes l e = bits_of (λ i. defect_of (get_or nodes (bottom_of z + detector_in d i) 0)) (detectors_of h d) l e
 
--- a loop that tests all places after another test: its start and its turn
+-- a loop that tests all places after another test: its start, its turn and its end
 module _ (f : ℕ → Bool) where
   pub after_none : (q b : Bool) → b ≡ q → b ≡ (q && every 0 f)
   after_none true b p = p ∙ sym (every-none f)
@@ -79,6 +79,9 @@ module _ (f : ℕ → Bool) where
   unfolding every
   after_next true i b v p e = rw (p, e, add-one i)
   after_next false i b v p e = rw p
+
+  pub after-done : (q : Bool) (i n : ℕ) (b : Bool) → b ≡ (q && every i f) → i ≤ n → n ≤ i → b ≡ (q && every n f)
+  after-done q i n b p x y = let e : i ≡ n = omega arith in p ∙ ap (λ (j : ℕ). q && every j f) e
 
 neither : (a b : Bool) → a || b ≡ false → (a ≡ false) × (b ≡ false)
 neither false b e = (refl, e)
