@@ -4,6 +4,7 @@ use native.Mathlib.Omega.{arith}
 use mathlib.Core.Path.{◌≡◌, refl, sym, ◌∙◌, ap, subst}
 use mathlib.Core.Bool.{Bool, true}
 use mathlib.Core.List.{List, ◌∷◌}
+use Rattle.std.specs.Prelude.{Option, Some, Result, Ok}
 use lib.ListN.{length, take, replicate}
 use Rattle.refusal.specs.Answer.{Answer, done, ended, and_then, turned, code_of, without_value, value_or, itself}
 use Rattle.refusal.specs.Bytes.{Bytes}
@@ -12,8 +13,6 @@ use Rattle.refusal.specs.Writing.{Buffered, buffered}
 use Rattle.refusal.specs.declared.Refusal.{Refusal}
 use Rattle.list.specs.Sheet.{read_into}
 use Rattle.record.specs.Calls.{round_answer}
-use Rattle.record.specs.declared.RoundRead.{RoundRead}
-use Rattle.record.specs.declared.RoundRead.TheVariants as round_read
 use Rattle.shape.specs.Sizes.{detectors_of}
 use Rattle.shape.specs.declared.Shape.{Shape}
 use Rattle.steps.specs.Models.{of_model}
@@ -23,8 +22,11 @@ use Rattle.window.specs.declared.Window.{Window}
 use Rattle.decoding.specs.Decoding.{Line, finished, turned_back, Turn, turn_by, turn_of, Recorded, recorded}
 use Rattle.decoding.specs.Answers.{RecordAnswer, over, to, RecordReturned, record_returned, recorded_leaves, record_leaves}
 use Rattle.decoding.proofs.LawsDecoding.{recorded-turned}
-use Rattle.flat.specs.Entries.{State, state_of, Long}
+use Rattle.flat.specs.Entries.{State, Long}
 use Rattle.flat.specs.Plan.{Plan}
+use Rattle.flat.specs.Structs.{state_in}
+use Rattle.flat.specs.declared.arrays.Arrays.{Arrays}
+use Rattle.flat.specs.declared.arrays.Work.{Work}
 use Rattle.next_round.specs.Next.{next_round}
 use Rattle.next_round.specs.Laws.{record-next}
 use Rattle.shows.specs.Turn.{Held}
@@ -40,19 +42,19 @@ take-zeros (suc n) zero l = absurd (omega arith)
 take-zeros (suc n) (suc m) l = ap (λ (x : List ℕ). 0 ∷ x) (take-zeros n m (omega arith))
 
 -- what a reading found, by its answer and its buffer
-module _ (a : Answer (List ℕ)) (r : RoundRead) (new : List ℕ) (told : buffered (round_answer r) new ≡ read_into a new) where
+module _ (a : Answer (List ℕ)) (r : Result (Option ℕ) Refusal) (new : List ℕ) (told : buffered (round_answer r) new ≡ read_into a new) where
   pub read_answer : without_value a ≡ round_answer r
   read_answer = sym (ap (λ (x : Buffered). x.answer) told)
 
-  pub read_done : (behind : ℕ) → r ≡ round_read.To behind → a ≡ done new behind
+  pub read_done : (behind : ℕ) → r ≡ Ok (Some behind) → a ≡ done new behind
   read_done behind e =
       let v = done_on a behind (read_answer ∙ ap round_answer e) in
       let same : new ≡ v.0 = ap (λ (x : Buffered). x.buffer) told ∙ ap (λ (x : Answer (List ℕ)). value_or x itself new) v.1 in
       v.1 ∙ ap (λ (l : List ℕ). done l behind) (sym same)
 
-module _ (P : Plan) (sh : Shape) (next : ℕ) (nodes₀ marks₀ edges₀ : List ℕ) (rides quiet : Bool) (s : List ℕ) (b : Bytes s) (at : ℕ) (old : List ℕ) (from : ℕ) where
+module _ (P : Plan) (sh : Shape) (next : ℕ) (before : Arrays) (rides quiet : Bool) (s : List ℕ) (b : Bytes s) (at : ℕ) (old : List ℕ) (from : ℕ) where
   abbrev st₀ : State
-  st₀ = state_of nodes₀ marks₀ edges₀
+  st₀ = state_in before
 
   -- what is found of the next round
   abbrev found : Answer (List ℕ)
@@ -72,9 +74,9 @@ module _ (P : Plan) (sh : Shape) (next : ℕ) (nodes₀ marks₀ edges₀ : List
       ∙ ap (λ (x : Recorded). recorded_leaves x w old from) (record-next (of_model sh.model) (suited-model sh.model) s b w H.kept.formed H.rest at (length old) from)
 
   -- IT STOPS BEFORE A ROUND: window and arrays stay
-  module _ (nodes marks edges : List ℕ) (long : Long nodes marks edges) (lists : List ℕ) (queued : List Bool) (words : List ℕ) (scratch : Scratch lists queued words) where
+  module _ (arrays : Arrays) (long : Long arrays.nodes arrays.marks arrays.edges) (work : Work) (scratch : Scratch work) where
     stops : (l : Line) → ((w : Window) → record_returned (over l) w old ≡ leaves w (and_then found (turned_by w)))
-        → RecordOn P sh next (state_of nodes₀ marks₀ edges₀) rides quiet s at old from (over l) old next rides quiet nodes marks edges lists queued words
+        → RecordOn P sh next (state_in before) rides quiet s at old from (over l) old next rides quiet arrays work
     stops l q =
         record {
           long = long;
@@ -84,22 +86,22 @@ module _ (P : Plan) (sh : Shape) (next : ℕ) (nodes₀ marks₀ edges₀ : List
         }
 
     pub on-end : without_value (next_round s (detectors_of sh.height sh.distance) next at (length old) from) ≡ ended
-        → RecordOn P sh next (state_of nodes₀ marks₀ edges₀) rides quiet s at old from (over finished) old next rides quiet nodes marks edges lists queued words
+        → RecordOn P sh next (state_in before) rides quiet s at old from (over finished) old next rides quiet arrays work
     on-end z = stops finished (λ w. ap (leaves w) (sym (ended-on found (turned_by w) z)))
 
     pub on-refused : (f : Refusal) → without_value (next_round s (detectors_of sh.height sh.distance) next at (length old) from) ≡ turned f
-        → RecordOn P sh next (state_of nodes₀ marks₀ edges₀) rides quiet s at old from (over (turned_back (code_of f))) old next rides quiet nodes marks edges lists queued words
+        → RecordOn P sh next (state_in before) rides quiet s at old from (over (turned_back (code_of f))) old next rides quiet arrays work
     on-refused f z =
         stops (turned_back (code_of f))
         (λ w. ap (λ (x : Recorded). recorded_leaves x w old from) (sym (recorded-turned (length old - from) f)) ∙ ap (leaves w) (sym (turned_on found f (turned_by w) z)))
 
   -- A ROUND WAS READ, received and run
   module _ (bytes : List ℕ) (behind : ℕ) (read : next_round s (detectors_of sh.height sh.distance) next at (length old) from ≡ done bytes behind)
-      (rest : Bool) (made : ℕ) (nodes marks edges lists : List ℕ) (queued : List Bool) (words : List ℕ)
-      (L : TurnLeaves P sh next bytes (state_of nodes₀ marks₀ edges₀) rides quiet rest made nodes marks edges lists queued words)
-      (answer : RecordAnswer) (new : List ℕ) (put : RecordOf sh nodes₀ edges₀ rest made behind old from answer new) where
+      (rest : Bool) (made : ℕ) (arrays : Arrays) (work : Work)
+      (L : TurnLeaves P sh next bytes (state_in before) rides quiet rest made arrays work)
+      (answer : RecordAnswer) (new : List ℕ) (put : RecordOf sh before.nodes before.edges rest made behind old from answer new) where
     abbrev st : State
-    st = state_of nodes marks edges
+    st = state_in arrays
 
     module _ (w : Window) (e : w.shape ≡ sh) (f : w.next ≡ next) (H : Held (of_model sh.model) P w st₀ rides quiet) where
       turns : Turned (of_model sh.model) P w bytes rides rest made st
@@ -110,7 +112,7 @@ module _ (P : Plan) (sh : Shape) (next : ℕ) (nodes₀ marks₀ edges₀ : List
 
       written : record_returned answer (window_after answer w turns.window) new ≡ record_leaves (of_model sh.model) s w at old from
       written =
-          put.each w e marks₀ H.shows run refl refl
+          put.each w e before.marks H.shows run refl refl
           ∙ ap (λ (v : Ran). leaves w (done (turn_by (of_model sh.model) w v) behind)) (sym turns.equals)
           ∙ ap (λ (x : Answer (List ℕ)). leaves w (and_then x (turned_by w))) (sym read)
           ∙ whole_is w e f H
@@ -122,11 +124,26 @@ module _ (P : Plan) (sh : Shape) (next : ℕ) (nodes₀ marks₀ edges₀ : List
           subst (λ (v : Window). (v.shape ≡ w.shape) × (v.next ≡ next + 1) × (v.measured ≡ w.measured) × Held (of_model sh.model) P v st rides true) (sym (ap (λ (x : RecordAnswer). window_after x w turns.window) k))
           (turns.shape, turns.next ∙ ap (λ (n : ℕ). n + 1) f, turns.measured, turns.held (put.rested i j k))
 
-    pub on_read : RecordOn P sh next (state_of nodes₀ marks₀ edges₀) rides quiet s at old from answer new (next + 1) rides true nodes marks edges lists queued words
+    pub on_read : RecordOn P sh next (state_in before) rides quiet s at old from answer new (next + 1) rides true arrays work
     on_read =
         record {
           long = L.long;
           scratch = L.scratch;
           same = refl;
           each = λ w e f H. record { window = window_after answer w (turns w e f H).window; leaves = written w e f H; held = held_after w e f H };
+        }
+
+    -- where it ended, what is held is as it was
+    pub on-ended : (l : Line) → answer ≡ over l → RecordOn P sh next (state_in before) rides quiet s at old from answer new next rides quiet arrays work
+    on-ended l k =
+        record {
+          long = L.long;
+          scratch = L.scratch;
+          same = refl;
+          each = λ w e f H.
+              record {
+                window = window_after answer w (turns w e f H).window;
+                leaves = written w e f H;
+                held = λ i j t. absurd (let u : over l ≡ to i j = sym k ∙ t in let z : ◌≡◌ {A = ℕ} 0 1 = cc in omega arith);
+              };
         }

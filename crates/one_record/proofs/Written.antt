@@ -11,8 +11,7 @@ use Rattle.refusal.specs.Tests.{Passes}
 use Rattle.refusal.specs.declared.Refusal.{Refusal}
 use Rattle.refusal.specs.Holds.{hold-pass}
 use Rattle.number.specs.Number.{written_buffered}
-use Rattle.number.specs.declared.Wrote.{Wrote}
-use Rattle.number.specs.declared.Wrote.TheVariants as wrote_to
+use Rattle.std.specs.Prelude.{Result, Ok, Err}
 use Rattle.list.specs.Sheet.{are_bits}
 use Rattle.shape.specs.Choice.{if-true, if-false}
 use Rattle.shape.proofs.Ranges.{halves}
@@ -38,7 +37,7 @@ module _ (w : Window) (m : ℕ) (model : w.shape.model ≡ m) (behind : ℕ) (ol
   round-spent e = sym (ap (λ (x : Recorded). recorded_leaves x w old from) (if-false _ _ _ e))
 
   -- a round that came to rest, and the writing of its record
-  module _ (rest : v.rest ≡ true) (range : IsShape w.shape) (inside : from ≤ length old) (r : Wrote) (new : List ℕ)
+  module _ (rest : v.rest ≡ true) (range : IsShape w.shape) (inside : from ≤ length old) (r : Result ℕ Refusal) (new : List ℕ)
       (put : written_buffered r new ≡ write_result w.shape (as_result (committed_edges (of_model m) w) (escaped_defects w) v.count) old from) where
     abbrev tests : List (Bool × ℕ)
     tests = place_tests w.shape (length old) from ++ (edges_test w.shape (committed_edges (of_model m) w) ∷ escapes_test w.shape (escaped_defects w) ∷ (are_bits (committed_edges (of_model m) w), 4) ∷ (are_bits (escaped_defects w), 4) ∷ [])
@@ -51,15 +50,15 @@ module _ (w : Window) (m : ℕ) (model : w.shape.model ≡ m) (behind : ℕ) (ol
     abbrev bytes : List ℕ
     bytes = result (turn_by (of_model m) w v).result
 
-    round-full : (f : Refusal) → r ≡ wrote_to.Not f → record_returned (over (turned_back (code_of f))) w new ≡ turn_leaves (of_model m) w v behind old from
+    round-full : (f : Refusal) → r ≡ Err f → record_returned (over (turned_back (code_of f))) w new ≡ turn_leaves (of_model m) w v behind old from
     round-full f z =
-        let x = writer-full tests pass old from bytes new f (ap (λ (x : Wrote). written_buffered x new) (sym z) ∙ put) in
+        let x = writer-full tests pass old from bytes new f (ap (λ (x : Result ℕ Refusal). written_buffered x new) (sym z) ∙ put) in
         rw (x.code, x.buffer)
         (sym (ap (λ (x : Recorded). recorded_leaves x w old from) (if-false _ _ _ x.room)) ∙ sym (ap (λ (x : Recorded). recorded_leaves x w old from) (if-true _ _ _ rest)))
 
-    round-written : (end : ℕ) → r ≡ wrote_to.To end → record_returned (to behind end) v.window new ≡ turn_leaves (of_model m) w v behind old from
+    round-written : (end : ℕ) → r ≡ Ok end → record_returned (to behind end) v.window new ≡ turn_leaves (of_model m) w v behind old from
     round-written end z =
-        let x = writer-wrote tests pass old from bytes new end (ap (λ (x : Wrote). written_buffered x new) (sym z) ∙ put) in
+        let x = writer-wrote tests pass old from bytes new end (ap (λ (x : Result ℕ Refusal). written_buffered x new) (sym z) ∙ put) in
         rw (x.next, x.buffer)
         (sym (ap (λ (x : Recorded). recorded_leaves x w old from) (if-true _ _ _ x.room)) ∙ sym (ap (λ (x : Recorded). recorded_leaves x w old from) (if-true _ _ _ rest)))
 
@@ -72,7 +71,7 @@ module _ (sh : Shape) (range : IsShape sh) (nodes edges : List ℕ) (rest : Bool
         each = λ w s marks h v r c. round-spent w sh.model (ap (λ (x : Shape). x.model) s) behind old from v (r ∙ e);
       }
 
-  module _ (e : rest ≡ true) (inside : from ≤ length old) (r : Wrote) (new : List ℕ)
+  module _ (e : rest ≡ true) (inside : from ≤ length old) (r : Result ℕ Refusal) (new : List ℕ)
       (put : (w : Window) → w.shape ≡ sh → (marks : List ℕ) → Shows (of_model sh.model) w (state_of nodes marks edges) → written_buffered r new ≡ write_result sh (as_result (committed_edges (of_model sh.model) w) (escaped_defects w) made) old from) where
     ranged : (w : Window) → w.shape ≡ sh → IsShape w.shape
     ranged w s = subst IsShape (sym s) range
@@ -87,14 +86,14 @@ module _ (sh : Shape) (range : IsShape sh) (nodes edges : List ℕ) (rest : Bool
         ∙ ap (λ (x : Shape). write_result x (as_result (committed_edges (of_model sh.model) w) (escaped_defects w) made) old from) (sym s)
         ∙ ap (λ (n : ℕ). write_result w.shape (as_result (committed_edges (of_model sh.model) w) (escaped_defects w) n) old from) (sym c)
 
-    pub put_full : (f : Refusal) → r ≡ wrote_to.Not f → RecordOf sh nodes edges rest made behind old from (over (turned_back (code_of f))) new
+    pub put_full : (f : Refusal) → r ≡ Err f → RecordOf sh nodes edges rest made behind old from (over (turned_back (code_of f))) new
     put_full f z =
         record {
           rested = λ i j k. e;
           each = λ w s marks h v q c. round-full w sh.model (modelled w s) behind old from v (q ∙ e) (ranged w s) inside r new (puts w s marks h v c) f z;
         }
 
-    pub put_written : (end : ℕ) → r ≡ wrote_to.To end → RecordOf sh nodes edges rest made behind old from (to behind end) new
+    pub put_written : (end : ℕ) → r ≡ Ok end → RecordOf sh nodes edges rest made behind old from (to behind end) new
     put_written end z =
         record {
           rested = λ i j k. e;

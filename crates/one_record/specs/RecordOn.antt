@@ -5,8 +5,11 @@ use Rattle.steps.specs.Steps.{Table}
 use Rattle.steps.specs.Models.{of_model}
 use Rattle.window.specs.declared.Window.{Window}
 use Rattle.decoding.specs.Answers.{RecordAnswer, to, RecordReturned, record_returned, record_leaves}
-use Rattle.flat.specs.Entries.{State, state_of, Long}
+use Rattle.flat.specs.Entries.{State, Long}
 use Rattle.flat.specs.Plan.{Plan}
+use Rattle.flat.specs.Structs.{state_in}
+use Rattle.flat.specs.declared.arrays.Arrays.{Arrays}
+use Rattle.flat.specs.declared.arrays.Work.{Work}
 use Rattle.shows.specs.Turn.{Held}
 use Rattle.turn.specs.Ready.{Scratch}
 
@@ -18,9 +21,9 @@ pub record RecordedOn (T : Table) (P : Plan) (w : Window) (whole : RecordReturne
 
 -- for every window that was held
 pub record RecordOn (P : Plan) (sh : Shape) (next : ℕ) (st : State) (rides quiet : Bool) (s : List ℕ) (at : ℕ) (old : List ℕ) (from : ℕ)
-    (answer : RecordAnswer) (new : List ℕ) (next' : ℕ) (rides' quiet' : Bool) (nodes marks edges lists : List ℕ) (queued : List Bool) (words : List ℕ) : Type 0 where
-  pub long : Long nodes marks edges
-  pub scratch : Scratch lists queued words
+    (answer : RecordAnswer) (new : List ℕ) (next' : ℕ) (rides' quiet' : Bool) (arrays : Arrays) (work : Work) : Type 0 where
+  pub long : Long arrays.nodes arrays.marks arrays.edges
+  pub scratch : Scratch work
   pub same : rides' ≡ rides
   pub each : (w : Window) → w.shape ≡ sh → w.next ≡ next → Held (of_model sh.model) P w st rides quiet
-      → RecordedOn (of_model sh.model) P w (record_leaves (of_model sh.model) s w at old from) answer new rides quiet' next' (state_of nodes marks edges)
+      → RecordedOn (of_model sh.model) P w (record_leaves (of_model sh.model) s w at old from) answer new rides quiet' next' (state_in arrays)

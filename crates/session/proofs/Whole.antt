@@ -15,8 +15,7 @@ use Rattle.refusal.specs.Writing.{laid}
 use Rattle.refusal.specs.declared.Refusal.{Refusal}
 use Rattle.refusal.specs.Holds.{hold-pass}
 use Rattle.number.specs.Number.{written_buffered}
-use Rattle.number.specs.declared.Wrote.{Wrote}
-use Rattle.number.specs.declared.Wrote.TheVariants as wrote_to
+use Rattle.std.specs.Prelude.{Result, Ok, Err}
 use Rattle.shape.proofs.Ranges.{halves}
 use Rattle.shape.specs.Sizes.{IsShape, height_ok, distance_ok}
 use Rattle.steps.specs.Models.{of_model}
@@ -24,8 +23,6 @@ use Rattle.shape.specs.declared.Shape.{Shape}
 use Rattle.record.specs.Calls.{header_answer, place_tests, write_header}
 use Rattle.trip.specs.Header.{header-writes}
 use Rattle.record.specs.Records.{header, header_at}
-use Rattle.record.specs.declared.HeaderRead.{HeaderRead}
-use Rattle.record.specs.declared.HeaderRead.TheVariants as header_read
 use Rattle.window.specs.Fresh.{fresh_window}
 use Rattle.decoding.specs.Decoding.{Line, turned_back, Rounds, rounds, Decoded, decoded}
 use Rattle.decoding.specs.Answers.{RoundsReturned, rounds_returned, decode_returned, output_leaves, decode_leaves}
@@ -35,7 +32,7 @@ use Rattle.rounds_on.specs.Laid.{laid-long, laid_more}
 use Rattle.session.specs.Ends.{Ends}
 
 -- a header that was read, and the writing of it
-pub record Put (s old : List ℕ) (sh : Shape) (next : ℕ) (q : Wrote) (new : List ℕ) : Type 0 where
+pub record Put (s old : List ℕ) (sh : Shape) (next : ℕ) (q : Result ℕ Refusal) (new : List ℕ) : Type 0 where
   pub stream : Bytes s
   pub read : header_at s 0 ≡ done sh next
   pub put : written_buffered q new ≡ write_header sh old 0
@@ -44,10 +41,10 @@ module _ (s old : List ℕ) where
   as-decoded : (x : Decoded) → decoded s (length old) ≡ x → output_leaves x old ≡ decode_leaves s old
   as-decoded x e = sym (ap (λ (y : Decoded). output_leaves y old) e)
 
-  pub header_refused : (r : HeaderRead) → header_answer r ≡ header_at s 0 → (f : Refusal) → r ≡ header_read.Refused f → decode_returned (turned_back (code_of f)) 0 old ≡ decode_leaves s old
+  pub header_refused : (r : Result (Shape × ℕ) Refusal) → header_answer r ≡ header_at s 0 → (f : Refusal) → r ≡ Err f → decode_returned (turned_back (code_of f)) 0 old ≡ decode_leaves s old
   header_refused r read f z = as-decoded _ (decoded-turned s (length old) f (sym read ∙ ap header_answer z))
 
-  module _ (sh : Shape) (next : ℕ) (q : Wrote) (new : List ℕ) (p : Put s old sh next q new) where
+  module _ (sh : Shape) (next : ℕ) (q : Result ℕ Refusal) (new : List ℕ) (p : Put s old sh next q new) where
     pub range : IsShape sh
     range = (header-writes s 0 sh next p.stream p.read).range
 
@@ -62,15 +59,15 @@ module _ (s old : List ℕ) where
     room : (t : Bool) → leb (length (header sh)) (length old - 0) ≡ t → leb (length (header sh)) (length old) ≡ t
     room t e = subst (λ (n : ℕ). leb (length (header sh)) n ≡ t) (sub-zero (length old)) e
 
-    pub header-full : (f : Refusal) → q ≡ wrote_to.Not f → decode_returned (turned_back (code_of f)) 0 new ≡ decode_leaves s old
+    pub header-full : (f : Refusal) → q ≡ Err f → decode_returned (turned_back (code_of f)) 0 new ≡ decode_leaves s old
     header-full f y =
-        let x = writer-full tests pass old 0 (header sh) new f (ap (λ (x : Wrote). written_buffered x new) (sym y) ∙ p.put) in
+        let x = writer-full tests pass old 0 (header sh) new f (ap (λ (x : Result ℕ Refusal). written_buffered x new) (sym y) ∙ p.put) in
         rw (x.code, x.buffer) (as-decoded _ (decoded-full s (length old) sh next p.read (room _ x.room)))
 
     -- the rounds behind the header
-    pub rounds-behind : (to : ℕ) → q ≡ wrote_to.To to → (l : Line) (i count : ℕ) (last : List ℕ) → Ends (of_model sh.model) (fresh_window (of_model sh.model) sh) s next new to l i count last → decode_returned l count last ≡ decode_leaves s old
+    pub rounds-behind : (to : ℕ) → q ≡ Ok to → (l : Line) (i count : ℕ) (last : List ℕ) → Ends (of_model sh.model) (fresh_window (of_model sh.model) sh) s next new to l i count last → decode_returned l count last ≡ decode_leaves s old
     rounds-behind to y l i count last made =
-        let x = writer-wrote tests pass old 0 (header sh) new to (ap (λ (x : Wrote). written_buffered x new) (sym y) ∙ p.put) in
+        let x = writer-wrote tests pass old 0 (header sh) new to (ap (λ (x : Result ℕ Refusal). written_buffered x new) (sym y) ∙ p.put) in
         let fits = leb-true (length (header sh)) (length old) (room _ x.room) in
         let inside : 0 + length (header sh) ≤ length old = omega arith in
         let long : length (laid old 0 (header sh)) ≡ length old = laid-long old 0 (header sh) inside in

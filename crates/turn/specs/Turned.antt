@@ -20,7 +20,10 @@ use Rattle.flat.specs.Entries.{State, margin, entry, within, state_of, Long}
 use Rattle.flat.specs.LawsEntries.{within_by}
 use Rattle.flat.specs.Plan.{Plan}
 use Rattle.flat.specs.Step.{named, list_at, Places}
+use Rattle.flat.specs.Structs.{state_in}
 use Rattle.flat.specs.declared.Sizes.{Sizes}
+use Rattle.flat.specs.declared.arrays.Arrays.{Arrays}
+use Rattle.flat.specs.declared.arrays.Work.{Work}
 use Rattle.plan.specs.Table.{sizes_of}
 use Rattle.shows.specs.Grown.{cuts_at, Grows}
 use Rattle.shows.specs.Changed.{Enlists}
@@ -188,10 +191,10 @@ module _ (P : Plan) (sh : Shape) (next : ℕ) (second : Bool) (there : second �
 
 -- WHAT IS LEFT IN THE ARRAYS, whichever window they held
 pub record TurnLeaves (P : Plan) (sh : Shape) (next : ℕ) (bytes : List ℕ) (st : State) (rides quiet rest : Bool) (made : ℕ)
-    (nodes marks edges lists : List ℕ) (queued : List Bool) (words : List ℕ) : Type 0 where
-  pub long : Long nodes marks edges
-  pub scratch : Scratch lists queued words
-  pub turns : (w : Window) → w.shape ≡ sh → w.next ≡ next → Held (of_model sh.model) P w st rides quiet → Turned (of_model sh.model) P w bytes rides rest made (state_of nodes marks edges)
+    (arrays : Arrays) (work : Work) : Type 0 where
+  pub long : Long arrays.nodes arrays.marks arrays.edges
+  pub scratch : Scratch work
+  pub turns : (w : Window) → w.shape ≡ sh → w.next ≡ next → Held (of_model sh.model) P w st rides quiet → Turned (of_model sh.model) P w bytes rides rest made (state_in arrays)
 
 -- no edge goes up from the top sheet of a window that is held
 pub held-above : (P : Plan) (sh : Shape) (next : ℕ) (nodes marks edges : List ℕ) (rides quiet : Bool) → HeldAt P sh next (state_of nodes marks edges) rides quiet
