@@ -7,7 +7,7 @@ use mathlib.Core.Bool.{Bool, true, false}
 use mathlib.Core.List.{List}
 use lib.ListN.{length, get_or, replicate, length-replicate, get_or-replicate}
 use Rattle.shape.proofs.Ranges.{in-range}
-use Rattle.shape.specs.Sizes.{in_range, max_nodes, max_detectors}
+use Rattle.shape.specs.Sizes.{IsShape, in_range, max_nodes, max_detectors}
 use Rattle.steps.specs.Steps.{Table}
 use Rattle.steps.specs.Models.{of_model}
 use Rattle.steps.proofs.Models.{suited-model}
@@ -25,6 +25,8 @@ use Rattle.flat.specs.Codes.{no_edge, growth_of}
 use Rattle.flat.specs.Entries.{State, plane, planes, cell, state_of, Long}
 use Rattle.flat.specs.Plan.{Plan, plan_of, Safe}
 use Rattle.flat.specs.declared.Sizes.{Sizes}
+use Rattle.plan.specs.declared.shape_layout.ShapeLayout.{ShapeLayout}
+use Rattle.shape.specs.declared.Shape.{Shape}
 use Rattle.shows.specs.Shows.{Shows, window_of}
 use Rattle.shows.proofs.Written.{written-shows}
 use Rattle.shows.specs.Unpack.{window-shown}
@@ -49,6 +51,17 @@ kept_by w e n g c m = record { formed = e; sized = record { nodes = n; growth = 
 
 pub unpacked-long : (w : Window) (nodes marks edges : List ℕ) → Unpacked (of_model w.shape.model) w nodes marks edges → Long nodes marks edges
 unpacked-long w nodes marks edges U = record { of-nodes = U.nodes-long; of-marks = U.marks-long; of-edges = U.edges-long }
+
+pub formed-shape : (w : Window) → well_formed (of_model w.shape.model) w ≡ true → IsShape w.shape
+formed-shape w e = record { sizes = formed-ranged w e; model = (facts (of_model w.shape.model) w e).model }
+
+-- THE LAYOUT of its shape
+module _ (w : Window) (laid : ShapeLayout) (same : laid.shape ≡ w.shape) where
+  pub sizes-for : laid.layout.sizes ≡ sizes_of (of_model w.shape.model) w.shape.height w.shape.distance
+  sizes-for = subst (λ (o : Shape). laid.layout.sizes ≡ sizes_of (of_model o.model) o.height o.distance) same laid.sizes
+
+  pub filled-for : Filled (of_model w.shape.model) w.shape.height w.shape.distance laid.layout.table
+  filled-for = subst (λ (o : Shape). Filled (of_model o.model) o.height o.distance laid.layout.table) same laid.filled
 
 -- ARRAYS AS THEY ARE MADE
 

@@ -52,7 +52,7 @@ pub fn grow(w: Window) -> Window
 
 // Grow on arrays, where it is due; how many ends of opened edges are listed.
 fn grow_due(layout: &Layout, due: bool, arrays: &mut Arrays, work: &mut Work) -> usize
-    requires lists_len { Empty work.old.queued }
+    requires lists_len { (length work.old.lists ≡ 13824) × Empty work.old.queued }
     requires standing { Standing (plan_in layout.now) layout.now.sizes.nodes layout.now.sizes.sheet (state_in arrays.old) }
     ensures { Due due (plan_in layout.now) layout.now.sizes.nodes layout.now.sizes.sheet (state_in arrays.old) (state_in arrays.new) result work.new.lists work.new.queued }
 {

@@ -1,38 +1,27 @@
 -- `machine::grow` meets its contract. Assumes nothing.
-use mathlib.Core.Path.{◌≡◌, refl, ◌∙◌}
-use mathlib.Core.Bool.{true}
-use Rattle.shape.specs.Sizes.{in_range}
-use Rattle.steps.specs.Models.{of_model}
-use Rattle.closure.specs.Closure.{Kept}
-use Rattle.machine.proofs.Packed.{formed-ranged, kept_by, unpacked-long, safe, none-queued, standing, grown-packed}
-use Rattle.machine.proofs.grow.Lts as lts
-use Rattle.machine.proofs.grow.Tie as tie
-use Rattle.machine.proofs.grow.Reads as reads
+use mathlib.Core.Path.{refl, ◌∙◌, ap, sym}
+use Rattle.queue.specs.Queue.{Empty}
+use Rattle.machine.proofs.Packed.{formed-shape, kept_by, sizes-for, filled-for, none-queued, standing, grown-packed}
 use Rattle.machine.proofs.grow.Goals as goal
 
-kept : (c : lts.Start tie.the-claims reads.Pre reads.Post tie.handed_clauses) → Kept (of_model c.args.w.shape.model) c.args.w
-kept c =
-    kept_by c.args.w c.requires (c.well_formed.0.1.1.1.1.1.0.1.0.1) (c.well_formed.0.1.1.1.1.1.1.0.1.0.1)
-    (c.well_formed.0.1.1.1.1.1.1.1.0.1.0.1) (c.well_formed.0.1.1.1.1.1.1.1.1.0.1.0.1)
+pub lay_out-laid-requires : goal.lay_out-laid-requires
+lay_out-laid-requires c = formed-shape c.args.w c.requires
 
-ranged : (c : lts.Start tie.the-claims reads.Pre reads.Post tie.handed_clauses) → in_range c.args.w.shape.height c.args.w.shape.distance ≡ true
-ranged c = formed-ranged c.args.w c.requires
+pub grow-requires-clause-none_queued : goal.grow-requires-clause-none_queued
+grow-requires-clause-none_queued c = rw c.empty-work.ensures.queued (none-queued 4608 refl)
 
-pub sizes-z-requires : goal.sizes-z-requires
-sizes-z-requires c = ranged c.before.before
-
-pub fill-requires : goal.fill-requires
-fill-requires c = record { distance_value = ranged c.before.before.before.before; table_value = refl }
-
-pub unpack-requires : goal.unpack-requires
-unpack-requires c = record { w_value = c.requires; filled = c.fill.ensures; nodes_len = (refl, refl, refl) }
-
-pub grow-requires : goal.grow-requires
-grow-requires c =
-    let z = c.sizes-z in
-    let w = c.args.w in record { safe = safe w z.result z.ensures _ c.fill.ensures; long = unpacked-long w _ _ _ c.unpack.ensures; lists_len = (refl, none-queued 4608 refl); standing = standing w z.result z.ensures _ c.fill.ensures (kept c.before.before.before.before.before.before.before.before.before.before.before.before.before.before.before.before) _ _ _ c.unpack.ensures }
+pub grow-requires-clause-standing : goal.grow-requires-clause-standing
+grow-requires-clause-standing c =
+    let w = c.args.w in
+    let laid = c.lay_out-laid.result in
+    let same = c.lay_out-laid.ensures in
+    let kept = (kept_by w c.requires c.well_formed.0.1.1.1.1.1.0.1.0.1 c.well_formed.0.1.1.1.1.1.1.0.1.0.1 c.well_formed.0.1.1.1.1.1.1.1.0.1.0.1 c.well_formed.0.1.1.1.1.1.1.1.1.0.1.0.1) in
+    standing w laid.layout.sizes (sizes-for w laid same) laid.layout.table (filled-for w laid same) kept _ _ _ c.unpack-arrays.ensures
 
 pub returns : goal.returns
 returns c =
-    let z = c.sizes-z in
-    c.pack.ensures ∙ grown-packed c.args.w z.result z.ensures _ c.fill.ensures (kept c.before.before.before.before.before.before.before.before.before.before.before.before.before.before.before.before.before.before.before.before.before) _ _ _ c.unpack.ensures _ c.grow.ensures.grows
+    let w = c.args.w in
+    let laid = c.lay_out-laid.result in
+    let same = c.lay_out-laid.ensures in
+    let kept = (kept_by w c.requires c.well_formed.0.1.1.1.1.1.0.1.0.1 c.well_formed.0.1.1.1.1.1.1.0.1.0.1 c.well_formed.0.1.1.1.1.1.1.1.0.1.0.1 c.well_formed.0.1.1.1.1.1.1.1.1.0.1.0.1) in
+    c.pack.ensures ∙ grown-packed w laid.layout.sizes (sizes-for w laid same) laid.layout.table (filled-for w laid same) kept _ _ _ c.unpack-arrays.ensures _ c.grow.ensures.grows

@@ -1,63 +1,50 @@
 -- `machine::round` meets its contract. Assumes nothing.
 use native.Mathlib.Omega.{arith}
-use mathlib.Core.Path.{◌≡◌, refl}
-use mathlib.Core.Bool.{true}
-use Rattle.shape.specs.Sizes.{in_range}
+use mathlib.Core.Path.{◌≡◌, refl, sym, ◌∙◌, ap, subst}
+use Rattle.flat.specs.Structs.{plan_in, state_in}
+use Rattle.shape.specs.declared.Shape.{Shape}
+use Rattle.shows.specs.Shows.{Shows}
 use Rattle.steps.specs.Models.{of_model}
 use Rattle.steps.proofs.Models.{suited-model, few-kinds}
-use Rattle.closure.specs.Closure.{Kept}
-use Rattle.flat.specs.Entries.{state_of}
-use Rattle.shows.specs.Shows.{Shows}
+use Rattle.window.specs.Round.{committed_edges}
+use Rattle.round_step.specs.Falls.{NoneAbove, NoneOutside}
 use Rattle.round_step.specs.LawsFalls.{none_above}
-use Rattle.machine.proofs.Packed.{formed-ranged, kept_by, none-outside, shown, received}
-use Rattle.machine.proofs.round.Lts as lts
-use Rattle.machine.proofs.round.Tie as tie
-use Rattle.machine.proofs.round.Reads as reads
+use Rattle.shows.specs.Sinks.{second_there, Sinks}
+use Rattle.machine.proofs.Packed.{formed-shape, kept_by, sizes-for, filled-for, none-outside, shown, received}
 use Rattle.machine.proofs.round.Goals as goal
 
-kept : (c : lts.Start tie.the-claims reads.Pre reads.Post tie.handed_clauses) → Kept (of_model c.args.w.shape.model) c.args.w
-kept c =
-    kept_by c.args.w c.requires.w_value (c.well_formed.0.1.1.1.1.1.0.1.0.1) (c.well_formed.0.1.1.1.1.1.1.0.1.0.1)
-    (c.well_formed.0.1.1.1.1.1.1.1.0.1.0.1) (c.well_formed.0.1.1.1.1.1.1.1.1.0.1.0.1)
+pub lay_out-laid-requires : goal.lay_out-laid-requires
+lay_out-laid-requires c = formed-shape c.args.w c.requires.w_value
 
-ranged : (c : lts.Start tie.the-claims reads.Pre reads.Post tie.handed_clauses) → in_range c.args.w.shape.height c.args.w.shape.distance ≡ true
-ranged c = formed-ranged c.args.w c.requires.w_value
-
-shows-at : (c : lts.After-unpack tie.the-claims reads.Pre reads.Post tie.handed_clauses) → Shows (of_model c.args.w.shape.model) c.args.w (state_of c.unpack.new.nodes c.unpack.new.marks c.unpack.new.edges)
-shows-at c =
-    shown c.args.w c.sizes-z.result c.sizes-z.ensures c.fill.new.table c.fill.ensures (kept c.before.before.before.before.before.before.before.before.before.before.before.before.before.before) c.unpack.new.nodes c.unpack.new.marks c.unpack.new.edges c.unpack.ensures
-
-pub sizes-z-requires : goal.sizes-z-requires
-sizes-z-requires c = ranged c.before.before.before.before.before.before
-
-pub fill-requires : goal.fill-requires
-fill-requires c = record { distance_value = ranged c.before.before.before.before.before.before.before.before.before; table_value = refl }
-
-pub unpack-requires : goal.unpack-requires
-unpack-requires c = record { w_value = c.requires.w_value; filled = c.fill.ensures; nodes_len = (refl, refl, refl) }
-
-pub leave_round-requires : goal.leave_round-requires
-leave_round-requires c =
-    record { distance_value = ranged c.before.before.before.before.before.before.before.before.before.before.before.before.before.before.before.before.before.before.before.before; z_value = c.sizes-z.ensures; filled = c.fill.ensures; out_edges_len = c.requires.edges_len; out_escapes_len = c.requires.escapes_len }
-
-pub fall-requires : goal.fall-requires
-fall-requires c =
+pub fall-requires-clause-none_above : goal.fall-requires-clause-none_above
+fall-requires-clause-none_above c =
     let w = c.args.w in
-    let above = none_above (of_model w.shape.model) (suited-model w.shape.model) w (kept c.before.before.before.before.before.before.before.before.before.before.before.before.before.before.before.before.before.before.before.before.before.before.before.before.before.before.before.before.before.before.before.before) c.unpack.new.nodes c.unpack.new.marks c.unpack.new.edges (shows-at c.before.before.before.before.before.before.before.before.before.before.before.before.before.before.before.before.before.before) in
-    let outside = none-outside (of_model w.shape.model) (few-kinds w.shape.model) w.shape.height w.shape.distance 27648 (omega arith) in record { distance_value = ranged c.before.before.before.before.before.before.before.before.before.before.before.before.before.before.before.before.before.before.before.before.before.before.before.before.before.before.before.before.before.before.before.before; z_value = c.sizes-z.ensures; filled = c.fill.ensures; bytes_len = c.requires.bytes_len; long = record { of-nodes = refl; of-marks = refl; of-edges = refl }; none_above = above; none_outside = outside }
+    let laid = c.lay_out-laid.result in
+    let same = c.lay_out-laid.ensures in
+    let kept = (kept_by w c.requires.w_value c.well_formed.0.1.1.1.1.1.0.1.0.1 c.well_formed.0.1.1.1.1.1.1.0.1.0.1 c.well_formed.0.1.1.1.1.1.1.1.0.1.0.1 c.well_formed.0.1.1.1.1.1.1.1.1.0.1.0.1) in
+    let shows = shown w laid.layout.sizes (sizes-for w laid same) laid.layout.table (filled-for w laid same) kept _ _ _ c.unpack-old.ensures in
+    subst (λ (o : Shape). NoneAbove (of_model o.model) o.height o.distance c.unpack-old.result.edges) (sym same) (none_above (of_model w.shape.model) (suited-model w.shape.model) w kept _ _ _ shows)
 
-pub overflow_add-w : goal.overflow_add-w
-overflow_add-w c = omega (arith, c.requires.next_lt_max_next)
-
-pub shape_of-edges : goal.shape_of-edges
-shape_of-edges c = c.leave_round.auto.out_edges
-
-pub shape_of-escapes : goal.shape_of-escapes
-shape_of-escapes c = c.leave_round.auto.out_escapes
+pub fall-requires-clause-none_outside : goal.fall-requires-clause-none_outside
+fall-requires-clause-none_outside c =
+    let o = c.lay_out-laid.result.shape in
+    rw c.empty-new.ensures.edges (none-outside (of_model o.model) (few-kinds o.model) o.height o.distance 27648 (omega arith))
 
 pub returns : goal.returns
 returns c =
     let w = c.args.w in
-    received w c.sizes-z.result c.sizes-z.ensures c.fill.new.table c.fill.ensures (kept c.before.before.before.before.before.before.before.before.before.before.before.before.before.before.before.before.before.before.before.before.before.before.before.before.before.before.before.before.before.before.before.before.before.before.before.before.before.before) c.unpack.new.nodes c.unpack.new.marks c.unpack.new.edges c.unpack.ensures
-    c.requires.stage_value c.args.bytes.now c.second-second.result c.second-second.ensures _ c.fall.ensures.sinks c.pack.result c.pack.ensures
-    _ _ (c.leave_round.ensures.out_edges_after w refl c.unpack.new.marks (shows-at c.before.before.before.before.before.before.before.before.before.before.before.before.before.before.before.before.before.before.before.before.before.before.before.before)) (c.leave_round.ensures.out_escapes_after w refl c.unpack.new.marks (shows-at c.before.before.before.before.before.before.before.before.before.before.before.before.before.before.before.before.before.before.before.before.before.before.before.before))
+    let laid = c.lay_out-laid.result in
+    let same = c.lay_out-laid.ensures in
+    let sizes = sizes-for w laid same in
+    let filled = filled-for w laid same in
+    let kept = (kept_by w c.requires.w_value c.well_formed.0.1.1.1.1.1.0.1.0.1 c.well_formed.0.1.1.1.1.1.1.0.1.0.1 c.well_formed.0.1.1.1.1.1.1.1.0.1.0.1 c.well_formed.0.1.1.1.1.1.1.1.1.0.1.0.1) in
+    let shows : Shows (of_model w.shape.model) w (state_in c.unpack-old.result) = shown w laid.layout.sizes sizes laid.layout.table filled kept _ _ _ c.unpack-old.ensures in
+    let laid-shows : Shows (of_model laid.shape.model) w (state_in c.unpack-old.result) = subst (λ (o : Shape). Shows (of_model o.model) w (state_in c.unpack-old.result)) (sym same) shows in
+    let P = plan_in laid.layout in
+    let before = state_in c.unpack-old.result in
+    let after = state_in c.fall.new.new in
+    let sinks = subst (λ (o : Shape). Sinks (of_model o.model) o.height o.distance P c.second-second.result c.args.bytes.now before after) same c.fall.ensures in
+    let left = c.leave_round.ensures in
+    received w laid.layout.sizes sizes laid.layout.table filled kept _ _ _ c.unpack-old.ensures
+    c.requires.stage_value c.args.bytes.now c.second-second.result c.second-second.ensures _ sinks c.pack.result c.pack.ensures
+    _ _ (left.out_edges_after w (sym same) c.unpack-old.result.marks laid-shows ∙ ap (λ (o : Shape). committed_edges (of_model o.model) w) same) (left.out_escapes_after w (sym same) c.unpack-old.result.marks laid-shows)
