@@ -4,7 +4,8 @@ use native.Mathlib.Omega.{arith}
 use mathlib.Core.Path.{◌≡◌, refl, sym, ◌∙◌, ap, subst}
 use mathlib.Core.Bool.{Bool, true}
 use mathlib.Core.List.{List, ◌∷◌}
-use Rattle.std.specs.Prelude.{Option, Some, Result, Ok}
+use Rattle.std.specs.Prelude.{Option, Some, None, Result, Ok, Err, IsErr, IsErrAnd, ok_or}
+use Rattle.decoding.specs.declared.Ending.{Ending}
 use lib.ListN.{length, take, replicate}
 use Rattle.refusal.specs.Answer.{Answer, done, ended, and_then, turned, code_of, without_value, value_or, itself}
 use Rattle.refusal.specs.Bytes.{Bytes}
@@ -40,6 +41,20 @@ pub take-zeros : (n m : ℕ) → n ≤ m → take n (replicate {A = ℕ} m 0) �
 take-zeros zero m l = refl
 take-zeros (suc n) zero l = absurd (omega arith)
 take-zeros (suc n) (suc m) l = ap (λ (x : List ℕ). 0 ∷ x) (take-zeros n m (omega arith))
+
+-- what `?` hands on
+pub ended-as : {A : Type 0} (r : Result A Ending) (e : Ending) → IsErr r → IsErrAnd r (λ x. x ≡ e) → r ≡ Err e
+ended-as (Ok v) e i k = absurd k
+ended-as (Err x) e i k = ap Err k
+
+-- what `ok_or` makes of a round that was looked for
+pub none-found : (o : Option ℕ) (e x : Ending) → ok_or o e ≡ Err x → (o ≡ None) × (x ≡ e)
+none-found None e x k = (refl, let y : e ≡ x = cc k in sym y)
+none-found (Some v) e x k = absurd (let z : ◌≡◌ {A = ℕ} 0 1 = cc k in omega arith)
+
+pub one-found : (o : Option ℕ) (e : Ending) (v : ℕ) → ok_or o e ≡ Ok v → o ≡ Some v
+one-found None e v k = absurd (let z : ◌≡◌ {A = ℕ} 0 1 = cc k in omega arith)
+one-found (Some w) e v k = ap Some (let y : w ≡ v = cc k in y)
 
 -- what a reading found, by its answer and its buffer
 module _ (a : Answer (List ℕ)) (r : Result (Option ℕ) Refusal) (new : List ℕ) (told : buffered (round_answer r) new ≡ read_into a new) where

@@ -1,100 +1,103 @@
 -- `one_record::record_on` meets its contract: nothing to receive, or a round that is run and whose record is written. Assumes nothing.
-use mathlib.Core.Path.{◌≡◌, sym, ◌∙◌, ap}
-use Prim.Native.Nat.{ℕ, ◌≤◌}
+use mathlib.Core.Path.{◌≡◌, sym, ◌∙◌, ap, subst}
+use mathlib.Core.Bool.{true}
+use Prim.Native.Nat.{ℕ, ◌+◌, ◌≤◌}
 use native.Mathlib.Omega.{arith}
 use mathlib.Core.List.{List}
 use lib.Seq.{length-take-le}
 use lib.ListN.{length, take, replicate}
+use Rattle.std.specs.Prelude.{Option, Some, Result, Ok, Err}
 use Rattle.refusal.specs.Answer.{done}
 use Rattle.refusal.specs.Bytes.{Bytes}
 use Rattle.refusal.specs.Writing.{buffered}
+use Rattle.refusal.specs.declared.Refusal.{Refusal}
 use Rattle.shape.proofs.LawsSizes.{detectors-le}
 use Rattle.shape.proofs.Ranges.{ranged}
 use Rattle.shape.specs.Sizes.{max_detectors, detectors_of}
 use Rattle.window.specs.LawsLists.{Fills, part-fits, part-back, part-long}
 use Rattle.list.specs.Sheet.{read_into}
 use Rattle.record.specs.Calls.{round_answer}
-use Rattle.flat.specs.Plan.{plan_of}
+use Rattle.decoding.specs.declared.Ending.TheVariants.{Finished, Refused}
+use Rattle.decoding.specs.Answers.{line_of, record_answer}
+use Rattle.flat.specs.Structs.{plan_in, state_in}
+use Rattle.decoding.specs.declared.Ending.{Ending}
+use Rattle.one_record.specs.RecordOn.{RecordOn}
 use Rattle.next_round.specs.Next.{next_round}
 use Rattle.next_round.specs.Laws.{ReadRound, next-found}
-use Rattle.one_record.proofs.Kept.{take-zeros, read_answer, read_done, on-end, on-refused, on_read}
-use Rattle.one_record.proofs.record_on.Lts as lts
-use Rattle.one_record.proofs.record_on.Tie as tie
-use Rattle.one_record.proofs.record_on.Reads as reads
+use Rattle.one_record.proofs.Kept.{take-zeros, ended-as, none-found, one-found, read_answer, read_done, on-end, on-refused, on_read, on-ended}
 use Rattle.one_record.proofs.record_on.Goals as goal
 
--- the round's bytes have room in the array
-low : (c : lts.After-detectors tie.the-claims reads.Pre reads.Post tie.handed_clauses) → c.detectors-n.result ≤ max_detectors
-low c =
-    omega (arith, c.detectors-n.ensures, detectors-le c.args.shape.height c.args.shape.distance (ranged _ _ c.requires.range.sizes))
-
-lent : (c : lts.After-detectors tie.the-claims reads.Pre reads.Post tie.handed_clauses) → length (take c.detectors-n.result (replicate {A = ℕ} max_detectors 0)) ≡ c.detectors-n.result
-lent c = length-take-le _ _ (low c)
-
-stream : (c : lts.After-shared_slice_known tie.the-claims reads.Pre reads.Post tie.handed_clauses) → Bytes c.args.src.now
-stream c i l = omega (arith, c.shared_slice_known-1.given i)
-
--- what was found of the next round
-told : (c : lts.After-next_round tie.the-claims reads.Pre reads.Post tie.handed_clauses) →
-    let a = c.args in
-    buffered (round_answer c.next_round.result) c.next_round.new.bytes ≡ read_into (next_round a.src.now (detectors_of a.shape.height a.shape.distance) a.held.next a.at (length a.out.now) a.to) c.next_round.new.bytes
-told c =
-    let a = c.args in
-    c.next_round.ensures
-    ∙ ap (λ (n : ℕ). read_into (next_round a.src.now n a.held.next a.at (length a.out.now) a.to) c.next_round.new.bytes) (lent c.before.before ∙ c.detectors-n.ensures)
-
--- a round was read, and fills its part
-read : (c : lts.Past-After-known_told2 tie.the-claims reads.Pre reads.Post tie.handed_clauses) →
-    let a = c.args in
-    ReadRound (detectors_of a.shape.height a.shape.distance) a.held.next (length a.out.now) a.to c.next_round.new.bytes
-read c =
-    let a = c.args in
-    next-found a.src.now (stream c.before.before.before.before.before.before) _ _ a.at _ _ _ c.in-To.behind (read_done _ c.next_round.result _ (told c.before.before) c.in-To.behind c.in-To.is)
-
-full : (c : lts.Past-After-known_told2 tie.the-claims reads.Pre reads.Post tie.handed_clauses) → Fills c.detectors-n.result c.next_round.new.bytes
-full c = record { long = (read c).long ∙ sym c.detectors-n.ensures }
-
-pub slice_bounds-bytes-end : goal.slice_bounds-bytes-end
-slice_bounds-bytes-end c = low c.before
-
-pub slice_bounds-next_round-end : goal.slice_bounds-next_round-end
-slice_bounds-next_round-end c = sym (lent c.before.before)
+-- the round's bytes are a part of the array
+lent : (n : ℕ) → n ≤ max_detectors → length (take n (replicate {A = ℕ} max_detectors 0)) ≡ n
+lent n l = length-take-le _ _ l
 
 pub next_round-requires : goal.next_round-requires
 next_round-requires c =
-    let z = take-zeros c.detectors-n.result max_detectors (low c.before.before) in
-    z ∙ ap (λ (n : ℕ). replicate {A = ℕ} n 0) (sym (lent c.before.before))
+    let sh = c.args.laid.now.shape in
+    let n = c.detectors-n.result in
+    let l : n ≤ max_detectors = omega (arith, c.detectors-n.ensures, detectors-le sh.height sh.distance (ranged _ _ c.requires.range.sizes)) in
+    take-zeros n max_detectors l ∙ ap (λ (m : ℕ). replicate {A = ℕ} m 0) (sym (lent n l))
 
-pub slice_bounds-bytes-end-in-To : goal.slice_bounds-bytes-end-in-To
-slice_bounds-bytes-end-in-To c = part-fits (full c.before) _
-
-pub slice_bounds-turn-end : goal.slice_bounds-turn-end
-slice_bounds-turn-end c = sym (part-long (full c.before.before) _)
-
-pub turn-ended-requires : goal.turn-ended-requires
-turn-ended-requires c = record { ready = c.requires; next_lt_max_next = ((read c.before.before.before.before.before.before.before.before).early, part-long (full c.before.before.before.before.before.before.before.before) _ ∙ c.detectors-n.ensures) }
-
-pub record_of-answer-requires : goal.record_of-answer-requires
-record_of-answer-requires c =
-    let p = c.requires in record { shape = p.range; z_value = p.sizes; filled = p.filled; to_in_bounds = (read c.before.before.before.before.before.before.before.before.before.before).room }
-
-pub overflow_add-result : goal.overflow_add-result
-overflow_add-result c = omega (arith, (read c.before.before.before.before.before.before.before.before.before.before.before.before.before.before).early)
-
-pub returns-in-End : goal.returns-in-End
-returns-in-End c =
+pub returns-in_err-round : goal.returns-in_err-round
+returns-in_err-round c =
     let a = c.args in
-    let p = c.requires in
-    on-end (plan_of a.z a.table.now) a.shape a.held.next a.old_nodes.now a.old_marks.now a.old_edges.now a.held.rides a.held.quiet a.src.now (stream c.before.before.before.before.before.before.before) a.at a.out.now a.to a.nodes.now a.marks.now a.edges.now p.free a.lists.now a.queued.now a.words.now p.scratch (read_answer (next_round a.src.now (detectors_of a.shape.height a.shape.distance) a.held.next a.at (length a.out.now) a.to) c.next_round.result _ (told c.before.before.before) ∙ ap round_answer c.in-End.is)
+    let sh = a.laid.now.shape in
+    let n = c.detectors-n.result in
+    let l : n ≤ max_detectors = omega (arith, c.detectors-n.ensures, detectors-le sh.height sh.distance (ranged _ _ c.requires.range.sizes)) in
+    let stream : Bytes a.src.now = λ i h. omega (arith, c.type_inv.src i) in
+    let f = c.in_err-round.field-0.0 in
+    let told = c.next_round.ensures ∙ ap (λ (m : ℕ). read_into (next_round a.src.now m a.held.now.next a.at (length a.out.now) a.to) c.next_round.new.bytes) (lent n l ∙ c.detectors-n.ensures) in
+    let e = ended-as c.from_residual.result (Refused f) c.from_residual.ensures.0 c.from_residual.ensures.1 in
+    rw e (on-refused (plan_in a.laid.now.layout) sh a.held.now.next a.old.now a.held.now.rides a.held.now.quiet a.src.now stream a.at a.out.now a.to a.new.now c.requires.free-long a.work.now c.requires.scratch f (read_answer _ c.next_round.result _ told ∙ ap round_answer (c.in_err-round.was)))
 
-pub returns-in-Refused : goal.returns-in-Refused
-returns-in-Refused c =
+pub returns-in_err-behind : goal.returns-in_err-behind
+returns-in_err-behind c =
     let a = c.args in
-    let p = c.requires in
-    on-refused (plan_of a.z a.table.now) a.shape a.held.next a.old_nodes.now a.old_marks.now a.old_edges.now a.held.rides a.held.quiet a.src.now (stream c.before.before.before.before.before.before.before) a.at a.out.now a.to a.nodes.now a.marks.now a.edges.now p.free a.lists.now a.queued.now a.words.now p.scratch c.in-Refused.f (read_answer (next_round a.src.now (detectors_of a.shape.height a.shape.distance) a.held.next a.at (length a.out.now) a.to) c.next_round.result _ (told c.before.before.before) ∙ ap round_answer c.in-Refused.is)
+    let sh = a.laid.now.shape in
+    let n = c.detectors-n.result in
+    let l : n ≤ max_detectors = omega (arith, c.detectors-n.ensures, detectors-le sh.height sh.distance (ranged _ _ c.requires.range.sizes)) in
+    let stream : Bytes a.src.now = λ i h. omega (arith, c.type_inv.src i) in
+    let told = c.next_round.ensures ∙ ap (λ (m : ℕ). read_into (next_round a.src.now m a.held.now.next a.at (length a.out.now) a.to) c.next_round.new.bytes) (lent n l ∙ c.detectors-n.ensures) in
+    let none = none-found c.in_ok-round.round Finished c.in_err-behind.field-0.0 (sym c.ok_or.ensures.value ∙ c.in_err-behind.was) in
+    let e = ended-as c.from_residual-in_err-behind.result c.in_err-behind.field-0.0 c.from_residual-in_err-behind.ensures.0 c.from_residual-in_err-behind.ensures.1 in
+    rw (e, none.1) (on-end (plan_in a.laid.now.layout) sh a.held.now.next a.old.now a.held.now.rides a.held.now.quiet a.src.now stream a.at a.out.now a.to a.new.now c.requires.free-long a.work.now c.requires.scratch (read_answer _ c.next_round.result _ told ∙ ap round_answer (c.in_ok-round.was ∙ ap Ok none.0)))
 
-pub returns-in-To : goal.returns-in-To
-returns-in-To c =
+pub returns-in_err-offsets : goal.returns-in_err-offsets
+returns-in_err-offsets c =
     let a = c.args in
-    let p = c.requires in
-    on_read (plan_of a.z a.table.now) a.shape a.held.next a.old_nodes.now a.old_marks.now a.old_edges.now a.held.rides a.held.quiet a.src.now (stream c.before.before.before.before.before.before.before.before.before.before.before.before.before.before.before.before.before.before.before.before) a.at a.out.now a.to _ c.in-To.behind (read_done _ c.next_round.result _ (told c.before.before.before.before.before.before.before.before.before.before.before.before.before.before.before.before) c.in-To.behind c.in-To.is ∙ ap (λ (l : List ℕ). done l c.in-To.behind) (sym (part-back (full c.before.before.before.before.before.before.before.before.before.before.before.before.before.before) _))) _ _ _ _ _ _ _ _ c.turn-ended.ensures _ _ c.record_of-answer.ensures
+    let sh = a.laid.now.shape in
+    let n = c.detectors-n.result in
+    let l : n ≤ max_detectors = omega (arith, c.detectors-n.ensures, detectors-le sh.height sh.distance (ranged _ _ c.requires.range.sizes)) in
+    let stream : Bytes a.src.now = λ i h. omega (arith, c.type_inv.src i) in
+    let told = c.next_round.ensures ∙ ap (λ (m : ℕ). read_into (next_round a.src.now m a.held.now.next a.at (length a.out.now) a.to) c.next_round.new.bytes) (lent n l ∙ c.detectors-n.ensures) in
+    let behind = c.in_ok-behind.behind in
+    let some = one-found c.in_ok-round.round Finished behind (sym c.ok_or.ensures.value ∙ c.in_ok-behind.was) in
+    let done_as = read_done _ c.next_round.result _ told behind (c.in_ok-round.was ∙ ap Ok some) in
+    let found = next-found a.src.now stream _ _ a.at _ _ _ behind done_as in
+    let full : Fills n c.next_round.new.bytes = record { long = found.long ∙ sym c.detectors-n.ensures } in
+    let read = done_as ∙ ap (λ (b : List ℕ). done b behind) (sym (part-back full _)) in
+    let x = c.in_err-offsets.field-0.0 in
+    let e = ended-as c.from_residual-in_err-offsets.result x c.from_residual-in_err-offsets.ensures.0 c.from_residual-in_err-offsets.ensures.1 in
+    subst
+    (λ (r : Result (ℕ × ℕ) Ending). RecordOn (plan_in a.laid.now.layout) sh a.held.now.next (state_in a.old.now) a.held.now.rides a.held.now.quiet a.src.now a.at a.out.now a.to (record_answer r) c.record_of.new.out a.held.now.next a.held.now.rides a.held.now.quiet c.turn-ended.new.new c.turn-ended.new.work)
+    (c.in_err-offsets.was ∙ sym e)
+    (on-ended (plan_in a.laid.now.layout) sh a.held.now.next a.old.now a.held.now.rides a.held.now.quiet a.src.now stream a.at a.out.now a.to _ behind read _ _ _ _ c.turn-ended.ensures _ _ c.record_of.ensures (line_of x) (ap record_answer c.in_err-offsets.was))
+
+pub returns : goal.returns
+returns c =
+    let a = c.args in
+    let sh = a.laid.now.shape in
+    let n = c.detectors-n.result in
+    let l : n ≤ max_detectors = omega (arith, c.detectors-n.ensures, detectors-le sh.height sh.distance (ranged _ _ c.requires.range.sizes)) in
+    let stream : Bytes a.src.now = λ i h. omega (arith, c.type_inv.src i) in
+    let told = c.next_round.ensures ∙ ap (λ (m : ℕ). read_into (next_round a.src.now m a.held.now.next a.at (length a.out.now) a.to) c.next_round.new.bytes) (lent n l ∙ c.detectors-n.ensures) in
+    let behind = c.in_ok-behind.behind in
+    let some = one-found c.in_ok-round.round Finished behind (sym c.ok_or.ensures.value ∙ c.in_ok-behind.was) in
+    let done_as = read_done _ c.next_round.result _ told behind (c.in_ok-round.was ∙ ap Ok some) in
+    let found = next-found a.src.now stream _ _ a.at _ _ _ behind done_as in
+    let full : Fills n c.next_round.new.bytes = record { long = found.long ∙ sym c.detectors-n.ensures } in
+    let read = done_as ∙ ap (λ (b : List ℕ). done b behind) (sym (part-back full _)) in
+    subst
+    (λ (r : Result (ℕ × ℕ) Ending). RecordOn (plan_in a.laid.now.layout) sh a.held.now.next (state_in a.old.now) a.held.now.rides a.held.now.quiet a.src.now a.at a.out.now a.to (record_answer r) c.record_of.new.out (a.held.now.next + 1) a.held.now.rides true c.turn-ended.new.new c.turn-ended.new.work)
+    c.in_ok-offsets.was
+    (on_read (plan_in a.laid.now.layout) sh a.held.now.next a.old.now a.held.now.rides a.held.now.quiet a.src.now stream a.at a.out.now a.to _ behind read _ _ _ _ c.turn-ended.ensures _ _ c.record_of.ensures)
