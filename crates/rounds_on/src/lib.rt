@@ -40,7 +40,7 @@ pub fn rounds_on(
     let mut here = held;
     let mut i = at;
     let mut j = to;
-    loop {
+    'records: loop {
         let mut there = here;
         let forth = one_record::record_on(laid, &mut there, src, i, out, j, first, other, work);
         let (next, behind) = match forth {
