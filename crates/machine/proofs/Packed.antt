@@ -25,8 +25,6 @@ use Rattle.flat.specs.Codes.{no_edge, growth_of}
 use Rattle.flat.specs.Entries.{State, plane, planes, cell, state_of, Long}
 use Rattle.flat.specs.Plan.{Plan, plan_of, Safe}
 use Rattle.flat.specs.declared.Sizes.{Sizes}
-use Rattle.plan.specs.declared.shape_layout.ShapeLayout.{ShapeLayout}
-use Rattle.shape.specs.declared.Shape.{Shape}
 use Rattle.shows.specs.Shows.{Shows, window_of}
 use Rattle.shows.proofs.Written.{written-shows}
 use Rattle.shows.specs.Unpack.{window-shown}
@@ -46,22 +44,8 @@ use Rattle.round_step.specs.Falls.{NoneOutside}
 pub formed-ranged : (w : Window) → well_formed (of_model w.shape.model) w ≡ true → in_range w.shape.height w.shape.distance ≡ true
 formed-ranged w e = in-range w.shape.height w.shape.distance (facts (of_model w.shape.model) w e).ranged
 
-pub kept_by : (w : Window) → well_formed (of_model w.shape.model) w ≡ true → length w.nodes ≡ max_nodes → length w.growth ≡ max_slots → length w.correction ≡ max_slots → length w.measured ≡ max_detectors → Kept (of_model w.shape.model) w
-kept_by w e n g c m = record { formed = e; sized = record { nodes = n; growth = g ∙ sym (slots-model w.shape.model); correction = c ∙ sym (slots-model w.shape.model); measured = m } }
-
 pub unpacked-long : (w : Window) (nodes marks edges : List ℕ) → Unpacked (of_model w.shape.model) w nodes marks edges → Long nodes marks edges
 unpacked-long w nodes marks edges U = record { of-nodes = U.nodes-long; of-marks = U.marks-long; of-edges = U.edges-long }
-
-pub formed-shape : (w : Window) → well_formed (of_model w.shape.model) w ≡ true → IsShape w.shape
-formed-shape w e = record { sizes = formed-ranged w e; model = (facts (of_model w.shape.model) w e).model }
-
--- THE LAYOUT of its shape
-module _ (w : Window) (laid : ShapeLayout) (same : laid.shape ≡ w.shape) where
-  pub sizes-for : laid.layout.sizes ≡ sizes_of (of_model w.shape.model) w.shape.height w.shape.distance
-  sizes-for = subst (λ (o : Shape). laid.layout.sizes ≡ sizes_of (of_model o.model) o.height o.distance) same laid.sizes
-
-  pub filled-for : Filled (of_model w.shape.model) w.shape.height w.shape.distance laid.layout.table
-  filled-for = subst (λ (o : Shape). Filled (of_model o.model) o.height o.distance laid.layout.table) same laid.filled
 
 -- ARRAYS AS THEY ARE MADE
 

@@ -6,3 +6,5 @@ pub mod Heads
 pub mod Limits
 pub mod Loops
 pub mod Filled
+-- the layout of a shape
+pub mod Laid

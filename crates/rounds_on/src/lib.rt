@@ -56,7 +56,9 @@ pub fn rounds_on(
             }
         };
         here = there;
-        let back = one_record::record_on(laid, &mut here, src, next, out, behind, other, first, work);
+        let back = one_record::record_on(
+            laid, &mut here, src, next, out, behind, other, first, work,
+        );
         (i, j) = match back {
             Ok(offsets) => offsets,
             Err(ending) => {

@@ -33,7 +33,9 @@ fn decode_fresh(shape: Shape, src: &[u8], at: usize, out: &mut [u8], to: usize) 
         rides: true,
         quiet: true,
     };
-    rounds_on::rounds_on(&laid, held, src, at, out, to, &mut first, &mut other, &mut work)
+    rounds_on::rounds_on(
+        &laid, held, src, at, out, to, &mut first, &mut other, &mut work,
+    )
 }
 
 // Decodes round after round of a well-formed window at rest. Whether a merging step would change a node is not known, so the first turn takes all.
@@ -52,7 +54,9 @@ fn decode_resting(w: Window, src: &[u8], at: usize, out: &mut [u8], to: usize) -
         rides,
         quiet: false,
     };
-    let r = rounds_on::rounds_on(&laid, held, src, at, out, to, &mut first, &mut other, &mut work);
+    let r = rounds_on::rounds_on(
+        &laid, held, src, at, out, to, &mut first, &mut other, &mut work,
+    );
     let arrays = if r.other { &other } else { &first };
     RoundsGiven {
         ending: r.ending,

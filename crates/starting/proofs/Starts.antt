@@ -22,7 +22,10 @@ use Rattle.flat.specs.Entries.{plane, entry, cell, within, state_of, Long}
 use Rattle.flat.specs.LawsEntries.{inside}
 use Rattle.flat.specs.Plan.{plan_of, Safe}
 use Rattle.flat.specs.Stored.{stored, stored_at, length-stored}
+use Rattle.flat.specs.Structs.{state_in}
 use Rattle.flat.specs.declared.Sizes.{Sizes}
+use Rattle.flat.specs.declared.arrays.Arrays.{Arrays}
+use Rattle.flat.specs.declared.arrays.Work.{Work}
 use Rattle.plan.specs.Filled.{Filled}
 use Rattle.plan.specs.Table.{sizes_of}
 use Rattle.round_step.specs.Falls.{NoneOutside}
@@ -43,8 +46,16 @@ nodes-long = length-replicate {A = ℕ} 4608 0
 pub long-made : Long (replicate {A = ℕ} 4608 0) (replicate {A = ℕ} 4608 0) (replicate {A = ℕ} 27648 3)
 long-made = record { of-nodes = nodes-long; of-marks = nodes-long; of-edges = length-replicate {A = ℕ} 27648 3 }
 
-pub scratch-made : Scratch (replicate {A = ℕ} 13824 0) (replicate 4608 false) (replicate {A = ℕ} 4608 0)
-scratch-made = record { lists-long = length-replicate {A = ℕ} 13824 0; empty = record { wide = length-replicate 4608 false; none = λ x. get_or-same false 4608 x }; words_long = nodes-long }
+pub long-empty : (arrays : Arrays) → arrays.nodes ≡ replicate {A = ℕ} 4608 0 → arrays.marks ≡ replicate {A = ℕ} 4608 0 → arrays.edges ≡ replicate {A = ℕ} 27648 3 → Long arrays.nodes arrays.marks arrays.edges
+long-empty arrays n m e = rw (n, m, e) long-made
+
+pub scratch-made : (work : Work) → work.lists ≡ replicate {A = ℕ} 13824 0 → work.queued ≡ replicate 4608 false → work.words ≡ replicate {A = ℕ} 4608 0 → Scratch work
+scratch-made work l q w =
+    record {
+      lists-long = ap length l ∙ length-replicate {A = ℕ} 13824 0;
+      empty = record { wide = ap length q ∙ length-replicate 4608 false; none = λ x. ap (λ (b : List Bool). get_or b x false) q ∙ get_or-same false 4608 x };
+      words_long = ap length w ∙ nodes-long;
+    }
 
 module _ (T : Table) (h d : ℕ) (table : List ℕ) (F : Filled T h d table) where
   pub safe-made : (z : Sizes) → z ≡ sizes_of T h d → Safe z table
@@ -123,6 +134,15 @@ fresh-shape sh = refl
 pub fresh-next : (sh : Shape) → (fresh_window (of_model sh.model) sh).next ≡ sheets_of sh.distance
 unfolding fresh_window
 fresh-next sh = refl
+
+-- IN ITS ARRAYS
+module _ (sh : Shape) (range : IsShape sh) (z : Sizes) (same : z ≡ sizes_of (of_model sh.model) sh.height sh.distance) (table : List ℕ) (F : Filled (of_model sh.model) sh.height sh.distance table)
+    (first : Arrays) (nodes : first.nodes ≡ replicate {A = ℕ} 4608 0) (marks : first.marks ≡ stored 0 (λ i. get_or table i 0) 4608 (replicate {A = ℕ} 4608 0)) (edges : first.edges ≡ replicate {A = ℕ} 27648 3) where
+  pub fresh-arrays : Long first.nodes first.marks first.edges
+  fresh-arrays = rw (nodes, edges) (long-fresh sh range z same table F first.marks marks)
+
+  pub fresh-stands : Held (of_model sh.model) (plan_of z table) (fresh_window (of_model sh.model) sh) (state_in first) true true
+  fresh-stands = rw (nodes, edges) (fresh-starts sh range z same table F first.marks marks)
 
 -- A WINDOW AT REST, unpacked
 module _ (w : Window) (k : Kept (of_model w.shape.model) w) (rest : is_rest w.stage ≡ true) (z : Sizes) (same : z ≡ sizes_of (of_model w.shape.model) w.shape.height w.shape.distance) (table : List ℕ)

@@ -3,3 +3,5 @@ pub mod Edges
 pub mod Unpacked
 -- whether pointers ride
 pub mod Rides
+-- the window that is unpacked
+pub mod GivenWindow

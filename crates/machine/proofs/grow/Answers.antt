@@ -1,7 +1,9 @@
 -- `machine::grow` meets its contract. Assumes nothing.
 use mathlib.Core.Path.{refl, ◌∙◌, ap, sym}
 use Rattle.queue.specs.Queue.{Empty}
-use Rattle.machine.proofs.Packed.{formed-shape, kept_by, sizes-for, filled-for, none-queued, standing, grown-packed}
+use Rattle.plan.specs.Laid.{sizes-for, filled-for}
+use Rattle.unpack.specs.GivenWindow.{formed-shape, kept_by}
+use Rattle.machine.proofs.Packed.{none-queued, standing, grown-packed}
 use Rattle.machine.proofs.grow.Goals as goal
 
 pub lay_out-laid-requires : goal.lay_out-laid-requires
@@ -16,7 +18,7 @@ grow-requires-clause-standing c =
     let laid = c.lay_out-laid.result in
     let same = c.lay_out-laid.ensures in
     let kept = (kept_by w c.requires c.well_formed.0.1.1.1.1.1.0.1.0.1 c.well_formed.0.1.1.1.1.1.1.0.1.0.1 c.well_formed.0.1.1.1.1.1.1.1.0.1.0.1 c.well_formed.0.1.1.1.1.1.1.1.1.0.1.0.1) in
-    standing w laid.layout.sizes (sizes-for w laid same) laid.layout.table (filled-for w laid same) kept _ _ _ c.unpack-arrays.ensures
+    standing w laid.layout.sizes (sizes-for laid w.shape same) laid.layout.table (filled-for laid w.shape same) kept _ _ _ c.unpack-arrays.ensures
 
 pub returns : goal.returns
 returns c =
@@ -24,4 +26,4 @@ returns c =
     let laid = c.lay_out-laid.result in
     let same = c.lay_out-laid.ensures in
     let kept = (kept_by w c.requires c.well_formed.0.1.1.1.1.1.0.1.0.1 c.well_formed.0.1.1.1.1.1.1.0.1.0.1 c.well_formed.0.1.1.1.1.1.1.1.0.1.0.1 c.well_formed.0.1.1.1.1.1.1.1.1.0.1.0.1) in
-    c.pack.ensures ∙ grown-packed w laid.layout.sizes (sizes-for w laid same) laid.layout.table (filled-for w laid same) kept _ _ _ c.unpack-arrays.ensures _ c.grow.ensures.grows
+    c.pack.ensures ∙ grown-packed w laid.layout.sizes (sizes-for laid w.shape same) laid.layout.table (filled-for laid w.shape same) kept _ _ _ c.unpack-arrays.ensures _ c.grow.ensures.grows

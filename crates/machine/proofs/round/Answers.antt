@@ -10,7 +10,9 @@ use Rattle.window.specs.Round.{committed_edges}
 use Rattle.round_step.specs.Falls.{NoneAbove, NoneOutside}
 use Rattle.round_step.specs.LawsFalls.{none_above}
 use Rattle.shows.specs.Sinks.{second_there, Sinks}
-use Rattle.machine.proofs.Packed.{formed-shape, kept_by, sizes-for, filled-for, none-outside, shown, received}
+use Rattle.plan.specs.Laid.{sizes-for, filled-for}
+use Rattle.unpack.specs.GivenWindow.{formed-shape, kept_by}
+use Rattle.machine.proofs.Packed.{none-outside, shown, received}
 use Rattle.machine.proofs.round.Goals as goal
 
 pub lay_out-laid-requires : goal.lay_out-laid-requires
@@ -22,7 +24,7 @@ fall-requires-clause-none_above c =
     let laid = c.lay_out-laid.result in
     let same = c.lay_out-laid.ensures in
     let kept = (kept_by w c.requires.w_value c.well_formed.0.1.1.1.1.1.0.1.0.1 c.well_formed.0.1.1.1.1.1.1.0.1.0.1 c.well_formed.0.1.1.1.1.1.1.1.0.1.0.1 c.well_formed.0.1.1.1.1.1.1.1.1.0.1.0.1) in
-    let shows = shown w laid.layout.sizes (sizes-for w laid same) laid.layout.table (filled-for w laid same) kept _ _ _ c.unpack-old.ensures in
+    let shows = shown w laid.layout.sizes (sizes-for laid w.shape same) laid.layout.table (filled-for laid w.shape same) kept _ _ _ c.unpack-old.ensures in
     subst (λ (o : Shape). NoneAbove (of_model o.model) o.height o.distance c.unpack-old.result.edges) (sym same) (none_above (of_model w.shape.model) (suited-model w.shape.model) w kept _ _ _ shows)
 
 pub fall-requires-clause-none_outside : goal.fall-requires-clause-none_outside
@@ -35,8 +37,8 @@ returns c =
     let w = c.args.w in
     let laid = c.lay_out-laid.result in
     let same = c.lay_out-laid.ensures in
-    let sizes = sizes-for w laid same in
-    let filled = filled-for w laid same in
+    let sizes = sizes-for laid w.shape same in
+    let filled = filled-for laid w.shape same in
     let kept = (kept_by w c.requires.w_value c.well_formed.0.1.1.1.1.1.0.1.0.1 c.well_formed.0.1.1.1.1.1.1.0.1.0.1 c.well_formed.0.1.1.1.1.1.1.1.0.1.0.1 c.well_formed.0.1.1.1.1.1.1.1.1.0.1.0.1) in
     let shows : Shows (of_model w.shape.model) w (state_in c.unpack-old.result) = shown w laid.layout.sizes sizes laid.layout.table filled kept _ _ _ c.unpack-old.ensures in
     let laid-shows : Shows (of_model laid.shape.model) w (state_in c.unpack-old.result) = subst (λ (o : Shape). Shows (of_model o.model) w (state_in c.unpack-old.result)) (sym same) shows in

@@ -3,7 +3,9 @@ use mathlib.Core.Path.{refl}
 use Prim.Native.Nat.{ℕ}
 use lib.ListN.{length-replicate}
 use Rattle.flat.specs.Structs.{state_in}
-use Rattle.machine.proofs.Packed.{formed-shape, kept_by, sizes-for, filled-for, none-queued, standing}
+use Rattle.plan.specs.Laid.{sizes-for, filled-for}
+use Rattle.unpack.specs.GivenWindow.{formed-shape, kept_by}
+use Rattle.machine.proofs.Packed.{none-queued, standing}
 use Rattle.machine.proofs.Begun.{Begun, begun, some-shown, run-packed}
 use Rattle.machine.proofs.run.Goals as goal
 
@@ -19,15 +21,15 @@ grow_due-opened-requires-clause-standing c =
     let laid = c.lay_out-laid.result in
     let same = c.lay_out-laid.ensures in
     let kept = (kept_by w c.requires.w_value c.well_formed.0.1.1.1.1.1.0.1.0.1 c.well_formed.0.1.1.1.1.1.1.0.1.0.1 c.well_formed.0.1.1.1.1.1.1.1.0.1.0.1 c.well_formed.0.1.1.1.1.1.1.1.1.0.1.0.1) in
-    standing w laid.layout.sizes (sizes-for w laid same) laid.layout.table (filled-for w laid same) kept _ _ _ c.unpack-arrays.ensures
+    standing w laid.layout.sizes (sizes-for laid w.shape same) laid.layout.table (filled-for laid w.shape same) kept _ _ _ c.unpack-arrays.ensures
 
 pub run-reached-requires-clause-shown : goal.run-reached-requires-clause-shown
 run-reached-requires-clause-shown c =
     let w = c.args.w in
     let laid = c.lay_out-laid.result in
     let same = c.lay_out-laid.ensures in
-    let sizes = sizes-for w laid same in
-    let filled = filled-for w laid same in
+    let sizes = sizes-for laid w.shape same in
+    let filled = filled-for laid w.shape same in
     let kept = (kept_by w c.requires.w_value c.well_formed.0.1.1.1.1.1.0.1.0.1 c.well_formed.0.1.1.1.1.1.1.0.1.0.1 c.well_formed.0.1.1.1.1.1.1.1.0.1.0.1 c.well_formed.0.1.1.1.1.1.1.1.1.0.1.0.1) in
     let begins : Begun w c.rides-rides.result (state_in c.grow_due-opened.new.arrays) = begun w laid.layout.sizes sizes laid.layout.table filled kept _ _ _ c.unpack-arrays.ensures c.rides-rides.result _ _ _ _ c.is_to_grow-due.result c.is_to_grow-due.ensures c.requires.stage_value c.rides-rides.ensures c.grow_due-opened.ensures in
     some-shown w laid.layout.sizes sizes laid.layout.table filled kept c.rides-rides.result _ begins _ _ _ _ c.all_nodes-count.result c.all_nodes-count.ensures
@@ -37,8 +39,8 @@ returns c =
     let w = c.args.w in
     let laid = c.lay_out-laid.result in
     let same = c.lay_out-laid.ensures in
-    let sizes = sizes-for w laid same in
-    let filled = filled-for w laid same in
+    let sizes = sizes-for laid w.shape same in
+    let filled = filled-for laid w.shape same in
     let kept = (kept_by w c.requires.w_value c.well_formed.0.1.1.1.1.1.0.1.0.1 c.well_formed.0.1.1.1.1.1.1.0.1.0.1 c.well_formed.0.1.1.1.1.1.1.1.0.1.0.1 c.well_formed.0.1.1.1.1.1.1.1.1.0.1.0.1) in
     let begins : Begun w c.rides-rides.result (state_in c.grow_due-opened.new.arrays) = begun w laid.layout.sizes sizes laid.layout.table filled kept _ _ _ c.unpack-arrays.ensures c.rides-rides.result _ _ _ _ c.is_to_grow-due.result c.is_to_grow-due.ensures c.requires.stage_value c.rides-rides.ensures c.grow_due-opened.ensures in
     run-packed w laid.layout.sizes sizes laid.layout.table filled kept c.rides-rides.result _ begins _ _ _ _ c.all_nodes-count.result c.all_nodes-count.ensures

@@ -1,26 +1,57 @@
 -- `session::decode_fresh` meets its contract: the arrays that are made hold the fresh window. Assumes nothing.
-use mathlib.Core.Path.{sym, ◌∙◌}
+use mathlib.Core.Path.{◌≡◌, sym, ◌∙◌, ap, subst}
+use mathlib.Core.Bool.{true}
+use mathlib.Core.List.{List}
+use Prim.Native.Nat.{ℕ}
+use Rattle.std.specs.Prelude.{get_or}
 use Rattle.steps.specs.Models.{of_model}
 use Rattle.window.specs.Fresh.{fresh_window}
-use Rattle.starting.proofs.Starts.{long-made, scratch-made, none_made, long-fresh, fresh-starts, fresh-shape, fresh-next}
+use Rattle.shape.specs.declared.Shape.{Shape}
+use Rattle.decoding.specs.Answers.{line_of, rounds_returned, rounds_leave}
+use Rattle.shows.specs.Turn.{Held}
+use Rattle.flat.specs.Structs.{plan_in, state_in}
+use Rattle.flat.specs.Stored.{stored}
+use Rattle.flat.specs.declared.arrays.Arrays.{Arrays}
+use Rattle.plan.specs.Laid.{sizes-for, filled-for}
+use Rattle.starting.proofs.Starts.{long-empty, scratch-made, none_made, fresh-arrays, fresh-stands, fresh-shape, fresh-next}
 use Rattle.session.proofs.decode_fresh.Goals as goal
 
 pub rounds_on-requires : goal.rounds_on-requires
 rounds_on-requires c =
     let sh = c.args.shape in
+    let laid = c.lay_out-laid.result in
+    let same = c.lay_out-laid.ensures in
+    let sizes = sizes-for laid sh same in
+    let filled = filled-for laid sh same in
+    let made = c.empty-first.ensures in
+    let free = c.empty-other.ensures in
+    let work = c.empty-work.ensures in
+    let marks = c.own_marks.ensures ∙ ap (λ (l : List ℕ). stored 0 (λ i. get_or laid.layout.table i 0) 4608 l) made.marks in
+    let first : Arrays = record { nodes = c.empty-first.result.nodes; marks = c.own_marks.new.marks; edges = c.empty-first.result.edges } in
+    rw same
     record {
       range = c.requires;
-      sizes = c.sizes-z.ensures;
-      filled = c.fill.ensures;
-      long = long-fresh sh c.requires _ c.sizes-z.ensures _ c.fill.ensures _ c.own_marks.ensures;
-      free = long-made;
-      outside = none_made _ _ _ _ c.fill.ensures;
-      scratch = scratch-made;
-      held = (fresh_window (of_model sh.model) sh, fresh-shape sh, fresh-next sh ∙ sym c.sheets.ensures, fresh-starts sh c.requires _ c.sizes-z.ensures _ c.fill.ensures _ c.own_marks.ensures);
+      sizes = sizes;
+      filled = filled;
+      long = fresh-arrays sh c.requires _ sizes _ filled first made.nodes marks made.edges;
+      free-long = long-empty _ free.nodes free.marks free.edges;
+      outside = rw free.edges (none_made _ _ _ _ filled);
+      scratch = scratch-made _ work.lists work.queued work.words;
+      held = (fresh_window (of_model sh.model) sh, fresh-shape sh, fresh-next sh ∙ sym c.sheets.ensures, fresh-stands sh c.requires _ sizes _ filled first made.nodes marks made.edges);
     }
 
 pub returns : goal.returns
 returns c =
     let sh = c.args.shape in
-    let e = c.rounds_on.ensures (fresh_window (of_model sh.model) sh) (fresh-shape sh) (fresh-next sh ∙ sym c.sheets.ensures) (fresh-starts sh c.requires _ c.sizes-z.ensures _ c.fill.ensures _ c.own_marks.ensures) in
-    (e.window, e.leaves)
+    let laid = c.lay_out-laid.result in
+    let same = c.lay_out-laid.ensures in
+    let sizes = sizes-for laid sh same in
+    let filled = filled-for laid sh same in
+    let made = c.empty-first.ensures in
+    let marks = c.own_marks.ensures ∙ ap (λ (l : List ℕ). stored 0 (λ i. get_or laid.layout.table i 0) 4608 l) made.marks in
+    let first : Arrays = record { nodes = c.empty-first.result.nodes; marks = c.own_marks.new.marks; edges = c.empty-first.result.edges } in
+    let held = subst (λ (o : Shape). Held (of_model o.model) (plan_in laid.layout) (fresh_window (of_model sh.model) sh) (state_in first) true true) (sym same) (fresh-stands sh c.requires _ sizes _ filled first made.nodes marks made.edges) in
+    let e = c.rounds_on.ensures (fresh_window (of_model sh.model) sh) (fresh-shape sh ∙ sym same) (fresh-next sh ∙ sym c.sheets.ensures) held in
+    let r = c.rounds_on in
+    let leaves = subst (λ (o : Shape). rounds_returned (line_of r.result.ending) e.window r.result.at r.result.to r.new.out ≡ rounds_leave (of_model o.model) c.args.src.now (fresh_window (of_model sh.model) sh) c.args.at c.args.out.now c.args.to) same e.leaves in
+    (e.window, leaves)

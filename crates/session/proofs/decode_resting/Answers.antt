@@ -1,66 +1,67 @@
 -- `session::decode_resting` meets its contract: the arrays hold the window, and the one reached is packed from its set. Assumes nothing.
-use mathlib.Core.Path.{◌≡◌, refl, sym, ◌∙◌}
-use mathlib.Core.Bool.{true}
-use Rattle.shape.proofs.Ranges.{in-range}
-use Rattle.shape.specs.Sizes.{in_range}
+use mathlib.Core.Path.{refl, sym, ◌∙◌, ap, subst}
+use mathlib.Core.Bool.{false}
 use Rattle.steps.specs.Models.{of_model}
-use Rattle.window.specs.Fresh.{slots-model}
-use Rattle.closure.specs.Closure.{Kept}
-use Rattle.closure.specs.Facts.{facts}
-use Rattle.starting.proofs.Starts.{safe-made, nodes-long, long-made, scratch-made, none_made, resting-starts}
+use Rattle.std.proofs.Common.{Bor}
+use Rattle.shape.specs.Choice.{if}
+use Rattle.window.specs.declared.Stage.TheVariants.{Rest}
+use Rattle.shows.specs.Shows.{window_of}
+use Rattle.flat.specs.declared.arrays.Arrays.{Arrays}
+use Rattle.shape.specs.declared.Shape.{Shape}
+use Rattle.decoding.specs.Answers.{line_of}
+use Rattle.shows.specs.Turn.{Held}
+use Rattle.rounds_on.specs.Rounds.{RoundsEnd}
+use Rattle.flat.specs.Structs.{plan_in, state_in}
+use Rattle.plan.specs.Laid.{sizes-for, filled-for}
+use Rattle.unpack.specs.GivenWindow.{formed-shape, kept_by}
+use Rattle.starting.proofs.Starts.{long-empty, scratch-made, none_made, resting-starts}
 use Rattle.session.specs.Ends.{packed-other, packed-first}
-use Rattle.session.proofs.decode_resting.Lts as lts
-use Rattle.session.proofs.decode_resting.Tie as tie
-use Rattle.session.proofs.decode_resting.Reads as reads
 use Rattle.session.proofs.decode_resting.Goals as goal
+use Rattle.session.proofs.decode_resting.Goals.{then-r, else-r}
 
-kept : (c : lts.Start tie.the-claims reads.Pre reads.Post tie.handed_clauses) → Kept (of_model c.args.w.shape.model) c.args.w
-kept c =
-    record {
-      formed = c.requires.w_value;
-      sized = record {
-        nodes = c.well_formed.0.1.1.1.1.1.0.1.0.1;
-        growth = c.well_formed.0.1.1.1.1.1.1.0.1.0.1 ∙ sym (slots-model c.args.w.shape.model);
-        correction = c.well_formed.0.1.1.1.1.1.1.1.0.1.0.1 ∙ sym (slots-model c.args.w.shape.model);
-        measured = c.well_formed.0.1.1.1.1.1.1.1.1.0.1.0.1;
-      };
-    }
-
-ranged : (c : lts.Start tie.the-claims reads.Pre reads.Post tie.handed_clauses) → in_range c.args.w.shape.height c.args.w.shape.distance ≡ true
-ranged c = in-range _ _ (facts (of_model c.args.w.shape.model) c.args.w c.requires.w_value).ranged
-
-pub sizes-z-requires : goal.sizes-z-requires
-sizes-z-requires c = ranged c.before.before.before.before
-
-pub fill-requires : goal.fill-requires
-fill-requires c = record { distance_value = ranged c.before.before.before.before.before.before; table_value = refl }
-
-pub unpack-requires : goal.unpack-requires
-unpack-requires c = record { w_value = c.requires.w_value; filled = c.fill.ensures; nodes_len = (nodes-long, nodes-long, refl) }
-
-pub rides-rides-requires : goal.rides-rides-requires
-rides-rides-requires c = safe-made _ _ _ _ c.fill.ensures _ c.sizes-z.ensures
+pub lay_out-laid-requires : goal.lay_out-laid-requires
+lay_out-laid-requires c =
+    formed-shape c.args.w c.requires.w_value
 
 pub rounds_on-r-requires : goal.rounds_on-r-requires
 rounds_on-r-requires c =
     let w = c.args.w in
+    let laid = c.lay_out-laid.result in
+    let same = c.lay_out-laid.ensures in
+    let sizes = sizes-for laid w.shape same in
+    let filled = filled-for laid w.shape same in
+    let free = c.empty-other.ensures in
+    let work = c.empty-work.ensures in
+    let unpacked = c.unpack-first.ensures in
+    let kept = kept_by w c.requires.w_value c.well_formed.0.1.1.1.1.1.0.1.0.1 c.well_formed.0.1.1.1.1.1.1.0.1.0.1 c.well_formed.0.1.1.1.1.1.1.1.0.1.0.1 c.well_formed.0.1.1.1.1.1.1.1.1.0.1.0.1 in
+    rw same
     record {
-      range = record { sizes = ranged c.before.before.before.before.before.before.before.before.before.before.before.before.before.before.before.before.before.before.before.before.before.before.before.before.before.before.before; model = (facts (of_model c.args.w.shape.model) c.args.w c.requires.w_value).model };
-      sizes = c.sizes-z.ensures;
-      filled = c.fill.ensures;
-      long = record { of-nodes = c.unpack.ensures.nodes-long; of-marks = c.unpack.ensures.marks-long; of-edges = c.unpack.ensures.edges-long };
-      free = long-made;
-      outside = none_made _ _ _ _ c.fill.ensures;
-      scratch = scratch-made;
-      held = (w, refl, refl, resting-starts w (kept c.before.before.before.before.before.before.before.before.before.before.before.before.before.before.before.before.before.before.before.before.before.before.before.before.before.before.before) c.requires.stage_value _ c.sizes-z.ensures _ c.fill.ensures _ _ _ c.unpack.ensures _ c.rides-rides.ensures);
+      range = rw (← same) laid.range;
+      sizes = sizes;
+      filled = filled;
+      long = record { of-nodes = unpacked.nodes-long; of-marks = unpacked.marks-long; of-edges = unpacked.edges-long };
+      free-long = long-empty _ free.nodes free.marks free.edges;
+      outside = rw free.edges (none_made _ _ _ _ filled);
+      scratch = scratch-made _ work.lists work.queued work.words;
+      held = (w, refl, refl, resting-starts w kept c.requires.stage_value _ sizes _ filled _ _ _ unpacked _ c.rides-rides.ensures);
     }
-
-pub returns-then-r : goal.returns-then-r
-returns-then-r c =
-    let w = c.args.w in
-    packed-other (of_model w.shape.model) w _ _ _ _ _ _ _ _ _ _ _ _ (c.rounds_on-r.ensures w refl refl (resting-starts w (kept c.before.before.before.before.before.before.before.before.before.before.before.before.before.before.before.before.before.before.before.before.before.before.before.before.before.before.before.before.before.before.before.before.before.before.before.before) c.requires.stage_value _ c.sizes-z.ensures _ c.fill.ensures _ _ _ c.unpack.ensures _ c.rides-rides.ensures)) _ c.if-r.true c.pack-window.ensures
 
 pub returns : goal.returns
 returns c =
     let w = c.args.w in
-    packed-first (of_model w.shape.model) w _ _ _ _ _ _ _ _ _ _ _ _ (c.rounds_on-r.ensures w refl refl (resting-starts w (kept c.before.before.before.before.before.before.before.before.before.before.before.before.before.before.before.before.before.before.before.before.before.before.before.before.before.before.before.before.before.before.before.before.before.before.before.before) c.requires.stage_value _ c.sizes-z.ensures _ c.fill.ensures _ _ _ c.unpack.ensures _ c.rides-rides.ensures)) _ c.if-r.false c.pack-window-2.ensures
+    let laid = c.lay_out-laid.result in
+    let same = c.lay_out-laid.ensures in
+    let sizes = sizes-for laid w.shape same in
+    let filled = filled-for laid w.shape same in
+    let unpacked = c.unpack-first.ensures in
+    let kept = kept_by w c.requires.w_value c.well_formed.0.1.1.1.1.1.0.1.0.1 c.well_formed.0.1.1.1.1.1.1.0.1.0.1 c.well_formed.0.1.1.1.1.1.1.1.0.1.0.1 c.well_formed.0.1.1.1.1.1.1.1.1.0.1.0.1 in
+    let a = c.args in
+    let r = c.rounds_on-r in
+    let held = subst (λ (o : Shape). Held (of_model o.model) (plan_in laid.layout) w (state_in c.unpack-first.result) c.rides-rides.result false) (sym same) (resting-starts w kept c.requires.stage_value _ sizes _ filled _ _ _ unpacked _ c.rides-rides.ensures) in
+    let end = subst
+    (λ (o : Shape). RoundsEnd (of_model o.model) w a.src.now a.at a.out.now a.to (line_of r.result.ending) r.result.at r.result.to r.new.out r.result.next (if r.result.other (state_in r.new.other) (state_in r.new.first)))
+    same (r.ensures w (sym same) refl held) in
+    elim c.if-r.branch [
+      | then-r b ↦ packed-other (of_model w.shape.model) w _ _ _ _ _ _ _ _ _ _ _ _ end _ b.if-r.true (c.pack.ensures ∙ ap (λ (x : Bor Arrays). window_of (of_model w.shape.model) w.shape Rest r.result.next w.measured (state_in x.now)) b.arrays-is)
+      | else-r b ↦ packed-first (of_model w.shape.model) w _ _ _ _ _ _ _ _ _ _ _ _ end _ b.if-r.false (c.pack.ensures ∙ ap (λ (x : Bor Arrays). window_of (of_model w.shape.model) w.shape Rest r.result.next w.measured (state_in x.now)) b.arrays-is)
+    ]
