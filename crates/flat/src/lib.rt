@@ -129,7 +129,7 @@ pub fn node(active: bool, defect: bool, unrooted: bool, pointer: u8) -> u8
     requires { pointer < 32 }
     ensures { result ≡ node_code active defect unrooted pointer }
 {
-    window::bit(active) + 2 * window::bit(defect) + 4 * window::bit(unrooted) + 8 * pointer
+    u8::from(active) + 2 * u8::from(defect) + 4 * u8::from(unrooted) + 8 * pointer
 }
 
 pub fn growth(v: u8) -> u8
@@ -148,7 +148,7 @@ pub fn edge(growth: u8, correction: bool) -> u8
     requires { growth < 4 }
     ensures { result ≡ edge_code growth correction }
 {
-    growth + 4 * window::bit(correction)
+    growth + 4 * u8::from(correction)
 }
 
 // An edge of growth 2.

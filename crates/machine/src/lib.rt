@@ -5,7 +5,7 @@ ghost use Rattle.std.specs.Prelude.{◌≡◌, true, false, ◌<◌, length};
 ghost use Rattle.shape.specs.Choice.{if};
 ghost use Rattle.shape.specs.Sizes.{detectors_of, layer_edges_of};
 ghost use Rattle.steps.specs.Models.{of_model};
-ghost use Rattle.window.specs.Window.{is_rest, max_next};
+ghost use Rattle.window.specs.Window.{is_rest, is_to_grow, max_next};
 ghost use Rattle.window.specs.Formed.{well_formed};
 ghost use Rattle.window.specs.Grow.{grown};
 ghost use Rattle.window.specs.Run.{ran};
@@ -50,6 +50,13 @@ pub fn grow(w: Window) -> Window
     pack::pack(w.shape, Stage::Merging, w.next, w.measured, &arrays)
 }
 
+// Grow is due.
+fn is_due(stage: Stage) -> bool
+    ensures { result ≡ is_to_grow stage }
+{
+    stage == Stage::ToGrow
+}
+
 // Grow on arrays, where it is due; how many ends of opened edges are listed.
 fn grow_due(layout: &Layout, due: bool, arrays: &mut Arrays, work: &mut Work) -> usize
     requires lists_len { (length work.old.lists ≡ 13824) × Empty work.old.queued }
@@ -78,7 +85,7 @@ pub fn run(w: Window, budget: u32) -> Ran
     requires stage_value { is_rest w.stage ≡ false }
     ensures { result ≡ ran (of_model w.shape.model) budget w }
 {
-    let due = window::is_to_grow(w.stage);
+    let due = is_due(w.stage);
     let laid = plan::lay_out(w.shape);
     let layout = &laid.layout;
     let mut arrays = unpack::unpack(&w, &laid);

@@ -3,8 +3,7 @@
 
 ghost use Rattle.std.specs.Prelude.{◌≡◌};
 ghost use Rattle.shape.specs.Sizes.{sheets_of};
-ghost use Rattle.window.specs.Lists.{bit as bit_of};
-ghost use Rattle.window.specs.Window.{alone as alone_of, is_rest, is_to_grow, is_merging, supplied as supplied_of, led_to};
+ghost use Rattle.window.specs.Window.{alone as alone_of, supplied as supplied_of, led_to};
 
 use refusal::Refusal;
 use shape::{MAX_DETECTORS, MAX_NODES, Shape};
@@ -116,24 +115,6 @@ pub fn alone(mark: u16, defect: bool) -> Node
     }
 }
 
-pub fn is_rest(stage: Stage) -> bool
-    ensures { result ≡ is_rest stage }
-{
-    stage == Stage::Rest
-}
-
-pub fn is_to_grow(stage: Stage) -> bool
-    ensures { result ≡ is_to_grow stage }
-{
-    stage == Stage::ToGrow
-}
-
-pub fn is_merging(stage: Stage) -> bool
-    ensures { result ≡ is_merging stage }
-{
-    stage == Stage::Merging
-}
-
 // Of the first k sheets, those of supplied rounds.
 fn supplied(shape: Shape, next: u32, k: usize) -> usize
     ensures { result ≡ supplied_of shape.distance next k }
@@ -160,11 +141,4 @@ pub fn pointed(shape: Shape, stage: Stage, next: u32) -> usize
     ensures { result ≡ supplied_of shape.distance next (led_to shape.distance stage) }
 {
     supplied(shape, next, led_to(shape, stage))
-}
-
-// A bit as a number.
-pub fn bit(set: bool) -> u8
-    ensures { result ≡ bit_of set }
-{
-    u8::from(set)
 }

@@ -31,7 +31,7 @@ run-reached-requires-clause-shown c =
     let sizes = sizes-for laid w.shape same in
     let filled = filled-for laid w.shape same in
     let kept = (kept_by w c.requires.w_value c.well_formed.0.1.1.1.1.1.0.1.0.1 c.well_formed.0.1.1.1.1.1.1.0.1.0.1 c.well_formed.0.1.1.1.1.1.1.1.0.1.0.1 c.well_formed.0.1.1.1.1.1.1.1.1.0.1.0.1) in
-    let begins : Begun w c.rides-rides.result (state_in c.grow_due-opened.new.arrays) = begun w laid.layout.sizes sizes laid.layout.table filled kept _ _ _ c.unpack-arrays.ensures c.rides-rides.result _ _ _ _ c.is_to_grow-due.result c.is_to_grow-due.ensures c.requires.stage_value c.rides-rides.ensures c.grow_due-opened.ensures in
+    let begins : Begun w c.rides-rides.result (state_in c.grow_due-opened.new.arrays) = begun w laid.layout.sizes sizes laid.layout.table filled kept _ _ _ c.unpack-arrays.ensures c.rides-rides.result _ _ _ _ c.is_due-due.result c.is_due-due.ensures c.requires.stage_value c.rides-rides.ensures c.grow_due-opened.ensures in
     some-shown w laid.layout.sizes sizes laid.layout.table filled kept c.rides-rides.result _ begins _ _ _ _ c.all_nodes-count.result c.all_nodes-count.ensures
 
 pub returns : goal.returns
@@ -42,6 +42,6 @@ returns c =
     let sizes = sizes-for laid w.shape same in
     let filled = filled-for laid w.shape same in
     let kept = (kept_by w c.requires.w_value c.well_formed.0.1.1.1.1.1.0.1.0.1 c.well_formed.0.1.1.1.1.1.1.0.1.0.1 c.well_formed.0.1.1.1.1.1.1.1.0.1.0.1 c.well_formed.0.1.1.1.1.1.1.1.1.0.1.0.1) in
-    let begins : Begun w c.rides-rides.result (state_in c.grow_due-opened.new.arrays) = begun w laid.layout.sizes sizes laid.layout.table filled kept _ _ _ c.unpack-arrays.ensures c.rides-rides.result _ _ _ _ c.is_to_grow-due.result c.is_to_grow-due.ensures c.requires.stage_value c.rides-rides.ensures c.grow_due-opened.ensures in
+    let begins : Begun w c.rides-rides.result (state_in c.grow_due-opened.new.arrays) = begun w laid.layout.sizes sizes laid.layout.table filled kept _ _ _ c.unpack-arrays.ensures c.rides-rides.result _ _ _ _ c.is_due-due.result c.is_due-due.ensures c.requires.stage_value c.rides-rides.ensures c.grow_due-opened.ensures in
     run-packed w laid.layout.sizes sizes laid.layout.table filled kept c.rides-rides.result _ begins _ _ _ _ c.all_nodes-count.result c.all_nodes-count.ensures
     c.args.budget c.run-reached.result.rest c.run-reached.result.count _ c.run-reached.ensures.ended c.stage_after-stage.result c.stage_after-stage.ensures c.pack.result c.pack.ensures
