@@ -11,9 +11,10 @@ use Rattle.window.specs.declared.Window.{Window}
 use Rattle.closure.specs.Closure.{Kept}
 use Rattle.decoding.specs.Decoding.{Line}
 use Rattle.decoding.specs.Answers.{RecordAnswer, to, over, rounds_returned, rounds_leave}
-use Rattle.flat.specs.Entries.{State}
-use Rattle.flat.specs.Plan.{Plan}
+use Rattle.flat.specs.Entries.{State, state_of}
+use Rattle.flat.specs.Plan.{Plan, plan_of}
 use Rattle.flat.specs.Structs.{plan_in, state_in}
+use Rattle.flat.specs.declared.Sizes.{Sizes}
 use Rattle.flat.specs.declared.arrays.Arrays.{Arrays}
 use Rattle.flat.specs.declared.arrays.Work.{Work}
 use Rattle.flat.specs.declared.layout.Layout.{Layout}
@@ -57,15 +58,16 @@ pub record Between (sh : Shape) (layout : Layout) (next₀ : ℕ) (st₀ : State
   each : (w : Window) → w.shape ≡ sh → w.next ≡ next₀ → Held (of_model sh.model) (plan_in layout) w st₀ rides₀ quiet₀
       → Along (of_model sh.model) (plan_in layout) w s at old from i out j next (state_in arrays) rides quiet
 
+-- margins of a set that shows a window hold no edge
+module _ (sh : Shape) (z : Sizes) (table : List ℕ) where
+  held-outside : (next : ℕ) (nodes marks edges : List ℕ) (rides quiet : Bool) → HeldAt (plan_of z table) sh next (state_of nodes marks edges) rides quiet
+      → NoneOutside (of_model sh.model) sh.height sh.distance edges
+  held-outside next nodes marks edges rides quiet h =
+      subst (λ (o : Shape). NoneOutside (of_model sh.model) o.height o.distance edges) h.1 h.3.shows.margins
+
 module _ (sh : Shape) (layout : Layout) where
   abbrev P : Plan
   P = plan_in layout
-
-  -- margins of a set that shows a window hold no edge
-  held-outside : (next : ℕ) (arrays : Arrays) (rides quiet : Bool) → HeldAt (plan_in layout) sh next (state_in arrays) rides quiet
-      → NoneOutside (of_model sh.model) sh.height sh.distance arrays.edges
-  held-outside next arrays rides quiet h =
-      subst (λ (o : Shape). NoneOutside (of_model sh.model) o.height o.distance arrays.edges) h.1 h.3.shows.margins
 
   pub begins : (next : ℕ) (rides quiet : Bool) (s : List ℕ) (at : ℕ) (old : List ℕ) (from : ℕ) (arrays other : Arrays) (work : Work)
       → Ready sh layout next rides quiet arrays other work
@@ -138,8 +140,8 @@ module _ (sh : Shape) (layout : Layout) where
               sizes = m.sizes;
               filled = m.filled;
               long = R.long;
-              free-long = m.long;
-              outside = held-outside next arrays rides quiet held;
+              free = m.long;
+              outside = held-outside sh layout.sizes layout.table next arrays.nodes arrays.marks arrays.edges rides quiet held;
               scratch = R.scratch;
               held = (r.window, h.0 ∙ held.1, h.1, held_in r.window h.3);
             };

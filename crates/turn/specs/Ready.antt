@@ -28,12 +28,12 @@ pub record Scratch (work : Work) : Type 0 where
   pub words_long : length work.words ≡ 4608
 
 -- the table of the shape; the set that holds the window; and the free set, with no edge in its margins
-pub record Ready (sh : Shape) (layout : Layout) (next : ℕ) (rides quiet : Bool) (arrays free : Arrays) (work : Work) : Type 0 where
+pub record Ready (sh : Shape) (layout : Layout) (next : ℕ) (rides quiet : Bool) (arrays other : Arrays) (work : Work) : Type 0 where
   pub range : IsShape sh
   pub sizes : layout.sizes ≡ sizes_of (of_model sh.model) sh.height sh.distance
   pub filled : Filled (of_model sh.model) sh.height sh.distance layout.table
   pub long : Long arrays.nodes arrays.marks arrays.edges
-  pub free-long : Long free.nodes free.marks free.edges
-  pub outside : NoneOutside (of_model sh.model) sh.height sh.distance free.edges
+  pub free : Long other.nodes other.marks other.edges
+  pub outside : NoneOutside (of_model sh.model) sh.height sh.distance other.edges
   pub scratch : Scratch work
   pub held : HeldAt (plan_in layout) sh next (state_in arrays) rides quiet

@@ -48,7 +48,7 @@ returns-in_err-round c =
     let f = c.in_err-round.field-0.0 in
     let told = c.next_round.ensures ∙ ap (λ (m : ℕ). read_into (next_round a.src.now m a.held.now.next a.at (length a.out.now) a.to) c.next_round.new.bytes) (lent n l ∙ c.detectors-n.ensures) in
     let e = ended-as c.from_residual.result (Refused f) c.from_residual.ensures.0 c.from_residual.ensures.1 in
-    rw e (on-refused (plan_in a.laid.now.layout) sh a.held.now.next a.old.now a.held.now.rides a.held.now.quiet a.src.now stream a.at a.out.now a.to a.new.now c.requires.free-long a.work.now c.requires.scratch f (read_answer _ c.next_round.result _ told ∙ ap round_answer (c.in_err-round.was)))
+    rw e (on-refused (plan_in a.laid.now.layout) sh a.held.now.next a.old.now a.held.now.rides a.held.now.quiet a.src.now stream a.at a.out.now a.to a.new.now c.requires.free a.work.now c.requires.scratch f (read_answer _ c.next_round.result _ told ∙ ap round_answer (c.in_err-round.was)))
 
 pub returns-in_err-behind : goal.returns-in_err-behind
 returns-in_err-behind c =
@@ -60,7 +60,7 @@ returns-in_err-behind c =
     let told = c.next_round.ensures ∙ ap (λ (m : ℕ). read_into (next_round a.src.now m a.held.now.next a.at (length a.out.now) a.to) c.next_round.new.bytes) (lent n l ∙ c.detectors-n.ensures) in
     let none = none-found c.in_ok-round.round Finished c.in_err-behind.field-0.0 (sym c.ok_or.ensures.value ∙ c.in_err-behind.was) in
     let e = ended-as c.from_residual-in_err-behind.result c.in_err-behind.field-0.0 c.from_residual-in_err-behind.ensures.0 c.from_residual-in_err-behind.ensures.1 in
-    rw (e, none.1) (on-end (plan_in a.laid.now.layout) sh a.held.now.next a.old.now a.held.now.rides a.held.now.quiet a.src.now stream a.at a.out.now a.to a.new.now c.requires.free-long a.work.now c.requires.scratch (read_answer _ c.next_round.result _ told ∙ ap round_answer (c.in_ok-round.was ∙ ap Ok none.0)))
+    rw (e, none.1) (on-end (plan_in a.laid.now.layout) sh a.held.now.next a.old.now a.held.now.rides a.held.now.quiet a.src.now stream a.at a.out.now a.to a.new.now c.requires.free a.work.now c.requires.scratch (read_answer _ c.next_round.result _ told ∙ ap round_answer (c.in_ok-round.was ∙ ap Ok none.0)))
 
 pub returns-in_err-offsets : goal.returns-in_err-offsets
 returns-in_err-offsets c =

@@ -40,7 +40,7 @@ rounds_on-r-requires c =
       sizes = sizes;
       filled = filled;
       long = record { of-nodes = unpacked.nodes-long; of-marks = unpacked.marks-long; of-edges = unpacked.edges-long };
-      free-long = long-empty _ free.nodes free.marks free.edges;
+      free = long-empty _ free.nodes free.marks free.edges;
       outside = rw free.edges (none_made _ _ _ _ filled);
       scratch = scratch-made _ work.lists work.queued work.words;
       held = (w, refl, refl, resting-starts w kept c.requires.stage_value _ sizes _ filled _ _ _ unpacked _ c.rides-rides.ensures);
