@@ -13,15 +13,14 @@ use Rattle.decoding.specs.Decoding.{Line}
 use Rattle.decoding.specs.Answers.{RecordAnswer, to, over, rounds_returned, rounds_leave}
 use Rattle.flat.specs.Entries.{State, state_of}
 use Rattle.flat.specs.Plan.{Plan, plan_of}
-use Rattle.flat.specs.Structs.{plan_in, state_in}
+use Rattle.flat.specs.Structs.{state_in}
 use Rattle.flat.specs.declared.Sizes.{Sizes}
 use Rattle.flat.specs.declared.arrays.Arrays.{Arrays}
 use Rattle.flat.specs.declared.arrays.Work.{Work}
-use Rattle.flat.specs.declared.layout.Layout.{Layout}
 use Rattle.shows.specs.Shows.{Shows}
 use Rattle.round_step.specs.Falls.{NoneOutside}
 use Rattle.shows.specs.Turn.{Held}
-use Rattle.turn.specs.Ready.{HeldAt, Ready}
+use Rattle.turn.specs.Ready.{HeldAt, ReadyIn}
 use Rattle.one_record.specs.RecordOn.{RecordOn}
 use Rattle.rounds_on.specs.Passing.{PassedOn, pass-stop, pass_on}
 
@@ -51,37 +50,36 @@ record Along (T : Table) (P : Plan) (w : Window) (s : List ℕ) (at : ℕ) (old 
   held : Held T P window st rides quiet
 
 -- for every window that was held; the arrays are ready for the next one
-pub record Between (sh : Shape) (layout : Layout) (next₀ : ℕ) (st₀ : State) (rides₀ quiet₀ : Bool) (s : List ℕ) (at : ℕ) (old : List ℕ) (from : ℕ)
+pub record Between (sh : Shape) (z : Sizes) (table : List ℕ) (next₀ : ℕ) (st₀ : State) (rides₀ quiet₀ : Bool) (s : List ℕ) (at : ℕ) (old : List ℕ) (from : ℕ)
     (i : ℕ) (out : List ℕ) (j next : ℕ) (rides quiet : Bool) (arrays other : Arrays) (work : Work) : Type 0 where
-  pub ready : Ready sh layout next rides quiet arrays other work
+  pub ready : ReadyIn sh z table next rides quiet arrays other work
   pub size : length out ≡ length old
-  each : (w : Window) → w.shape ≡ sh → w.next ≡ next₀ → Held (of_model sh.model) (plan_in layout) w st₀ rides₀ quiet₀
-      → Along (of_model sh.model) (plan_in layout) w s at old from i out j next (state_in arrays) rides quiet
+  each : (w : Window) → w.shape ≡ sh → w.next ≡ next₀ → Held (of_model sh.model) (plan_of z table) w st₀ rides₀ quiet₀
+      → Along (of_model sh.model) (plan_of z table) w s at old from i out j next (state_in arrays) rides quiet
 
--- margins of a set that shows a window hold no edge
 module _ (sh : Shape) (z : Sizes) (table : List ℕ) where
+  abbrev P : Plan
+  P = plan_of z table
+
+  -- margins of a set that shows a window hold no edge
   held-outside : (next : ℕ) (nodes marks edges : List ℕ) (rides quiet : Bool) → HeldAt (plan_of z table) sh next (state_of nodes marks edges) rides quiet
       → NoneOutside (of_model sh.model) sh.height sh.distance edges
   held-outside next nodes marks edges rides quiet h =
       subst (λ (o : Shape). NoneOutside (of_model sh.model) o.height o.distance edges) h.1 h.3.shows.margins
 
-module _ (sh : Shape) (layout : Layout) where
-  abbrev P : Plan
-  P = plan_in layout
-
   pub begins : (next : ℕ) (rides quiet : Bool) (s : List ℕ) (at : ℕ) (old : List ℕ) (from : ℕ) (arrays other : Arrays) (work : Work)
-      → Ready sh layout next rides quiet arrays other work
-      → Between sh layout next (state_in arrays) rides quiet s at old from at old from next rides quiet arrays other work
+      → ReadyIn sh z table next rides quiet arrays other work
+      → Between sh z table next (state_in arrays) rides quiet s at old from at old from next rides quiet arrays other work
   begins next rides quiet s at old from arrays other work r =
       record { ready = r; size = refl; each = λ w a b H. record { window = w; same = refl; shape = refl; next-is = b; measured = refl; held = H } }
 
   module _ (next₀ : ℕ) (st₀ : State) (rides₀ quiet₀ : Bool) (s : List ℕ) (at : ℕ) (old : List ℕ) (from : ℕ)
       (i : ℕ) (out : List ℕ) (j next : ℕ) (rides quiet : Bool) (arrays other : Arrays) (work : Work)
-      (B : Between sh layout next₀ st₀ rides₀ quiet₀ s at old from i out j next rides quiet arrays other work)
+      (B : Between sh z table next₀ st₀ rides₀ quiet₀ s at old from i out j next rides quiet arrays other work)
       (answer : RecordAnswer) (new : List ℕ) (next' : ℕ) (rides' quiet' : Bool) (arrays' : Arrays) (work' : Work)
-      (R : RecordOn (plan_in layout) sh next (state_in arrays) rides quiet s i out j answer new next' rides' quiet' arrays' work') where
+      (R : RecordOn (plan_of z table) sh next (state_in arrays) rides quiet s i out j answer new next' rides' quiet' arrays' work') where
     -- it stops with the window of before
-    pub stops : (l : Line) → answer ≡ over l → RoundsOn (plan_in layout) sh next₀ st₀ rides₀ quiet₀ s at old from l i j new next (state_in arrays)
+    pub stops : (l : Line) → answer ≡ over l → RoundsOn (plan_of z table) sh next₀ st₀ rides₀ quiet₀ s at old from l i j new next (state_in arrays)
     stops l k w a b H =
         let v = B.each w a b H in
         let r = R.each v.window (v.shape ∙ a) v.next-is v.held in
@@ -129,7 +127,7 @@ module _ (sh : Shape) (layout : Layout) where
             held = held_in r.window h.3;
           }
 
-      pub goes : Between sh layout next₀ st₀ rides₀ quiet₀ s at old from i' new j' next' rides' quiet' arrays' arrays work'
+      pub goes : Between sh z table next₀ st₀ rides₀ quiet₀ s at old from i' new j' next' rides' quiet' arrays' arrays work'
       goes =
           let m = B.ready in
           let r = R.each held.0 held.1 held.2 held.3 in
@@ -141,7 +139,7 @@ module _ (sh : Shape) (layout : Layout) where
               filled = m.filled;
               long = R.long;
               free = m.long;
-              outside = held-outside sh layout.sizes layout.table next arrays.nodes arrays.marks arrays.edges rides quiet held;
+              outside = held-outside next arrays.nodes arrays.marks arrays.edges rides quiet held;
               scratch = R.scratch;
               held = (r.window, h.0 ∙ held.1, h.1, held_in r.window h.3);
             };
