@@ -56,14 +56,6 @@ fn mark_code(mark: Mark) -> u64 {
     }
 }
 
-fn stage_code(stage: Stage) -> u64 {
-    match stage {
-        Stage::Rest => 0,
-        Stage::ToGrow => 1,
-        Stage::Merging => 2,
-    }
-}
-
 fn mix_node(digest: u64, node: Node) -> u64 {
     let a = mix(digest, u64::from(node.active));
     let b = mix(a, u64::from(node.defect));
@@ -76,7 +68,7 @@ fn digest(w: &Window) -> u64 {
     let a = mix(0, u64::from(w.shape.height));
     let b = mix(a, u64::from(w.shape.distance));
     let c = mix(b, u64::from(w.shape.model));
-    let d = mix(c, stage_code(w.stage));
+    let d = mix(c, w.stage as u64);
     let e = mix(d, u64::from(w.next));
     let f = w.nodes.iter().fold(e, |sum, node| mix_node(sum, *node));
     let g = w
@@ -211,25 +203,16 @@ fn open(rt: &impl Print, text: &[u8]) -> Window {
     given.window
 }
 
-// Says which round call it is, and makes it.
-fn either_round(
+// A round call, by its name in the script. Each byte of the buffers is 7 before it: what no call leaves.
+fn round<F: Fn(Window, &[u8], &mut [u8], &mut [u8]) -> Given<()>>(
     rt: &impl Print,
+    name: &[u8],
+    call: F,
+    text: &[u8],
     w: Window,
-    raw: bool,
-    bytes: &[u8],
-    edges: &mut [u8],
-    escapes: &mut [u8],
-) -> Given<()> {
-    if raw {
-        say(rt, b"raw ");
-        return calls::raw_round(w, bytes, edges, escapes);
-    }
-    say(rt, b"round ");
-    calls::round(w, bytes, edges, escapes)
-}
-
-// Each byte of the buffers is 7 before the call: what no call leaves.
-fn round(rt: &impl Print, text: &[u8], raw: bool, w: Window) -> Window {
+) -> Window
+    requires { F.IsAlwaysCallable call }
+{
     let (edges, text) = number(text);
     let (escapes, text) = number(text);
     let mut bytes = [0; MOST_ESCAPES];
@@ -238,7 +221,8 @@ fn round(rt: &impl Print, text: &[u8], raw: bool, w: Window) -> Window {
     let mut escape_buffer = [7; MOST_ESCAPES];
     let edge_bytes = &mut edge_buffer[..(edges as usize).min(MOST_EDGES)];
     let escape_bytes = &mut escape_buffer[..(escapes as usize).min(MOST_ESCAPES)];
-    let given = either_round(rt, w, raw, &bytes[..n], edge_bytes, escape_bytes);
+    say(rt, name);
+    let given = call(w, &bytes[..n], edge_bytes, escape_bytes);
     say_done(rt, given.answer);
     say_buffer(rt, edge_bytes);
     say_buffer(rt, escape_bytes);
@@ -353,8 +337,8 @@ fn command(rt: &impl Print, text: &[u8], letter: u8, w: Window) -> Window {
         b'o' => open(rt, text),
         b'r' => match text.get(1) {
             Some(b'u') => run(rt, w, number(text).0),
-            Some(b'a') => round(rt, text, true, w),
-            _ => round(rt, text, false, w),
+            Some(b'a') => round(rt, b"raw ", calls::raw_round, text, w),
+            _ => round(rt, b"round ", calls::round, text, w),
         },
         b'g' => grow(rt, w),
         b'm' => merging(rt, w, number(text).0),
