@@ -6,18 +6,13 @@ ghost use Rattle.std.specs.Prelude.{◌≡◌, true, ◌+◌, ◌≤◌, ◌<◌
 ghost use Rattle.refusal.specs.Writing.{front, put_to};
 ghost use Rattle.number.specs.Number.{written_buffered};
 ghost use Rattle.list.specs.Sheet.{ones as ones_of, listed as listed_of, are_bits, write_list};
-ghost use Rattle.list_writer.specs.Gaps.{top as top_of, Gap, Next, Measured};
+ghost use Rattle.list_writer.specs.Gaps.{top as top_of, Gap, Next};
 
+mod measured_list;
+
+pub use measured_list::MeasuredList;
 use number::{number_len, put_number};
 use refusal::Refusal;
-
-// What a list comes to: the bits of all entries together, how many are set, and how many bytes it has in a stream.
-#[derive(Clone, Copy)]
-pub struct Measure {
-    pub bits: u8,
-    pub ones: u64,
-    pub len: usize,
-}
 
 // The bits of all entries together: 0 where all are 0, at most 1 where each is 0 or 1.
 fn union(entries: &[u8]) -> u8
@@ -60,12 +55,13 @@ fn next_set(entries: &[u8], from: usize) -> Option<usize>
 }
 
 // Measures a list.
-pub fn measured(entries: &[u8]) -> Measure
-    ensures { Measured entries.now result.bits result.ones result.len }
+pub fn measured(entries: &[u8]) -> MeasuredList<'_>
+    ensures { result.entries.now ≡ entries.now }
 {
     let bits = union(entries);
     if bits == 0 {
-        return Measure {
+        return MeasuredList {
+            entries,
             bits,
             ones: 0,
             len: 1,
@@ -80,7 +76,12 @@ pub fn measured(entries: &[u8]) -> Measure
         from = place + 1;
     }
     len += number_len(ones);
-    Measure { bits, ones, len }
+    MeasuredList {
+        entries,
+        bits,
+        ones,
+        len,
+    }
 }
 
 // Writes a list, of which so many entries are set, at the front of a buffer that has room, and answers its bytes. It looks for one set entry
@@ -109,7 +110,7 @@ pub fn put_list(entries: &[u8], out: &mut [u8]) -> Option<usize>
     if out.len() < m.len {
         return None;
     }
-    Some(put_measured(entries, m.ones, out))
+    Some(put_measured(m.entries, m.ones, out))
 }
 
 // Each byte is 0 or 1.

@@ -5,12 +5,11 @@ ghost use Rattle.std.specs.Prelude.{◌≡◌, true, [], ◌≤◌, length, repl
 ghost use Rattle.refusal.specs.Writing.{front, put_to, writing};
 ghost use Rattle.number.specs.Number.{written_buffered};
 ghost use Rattle.list.specs.Sheet.{are_bits};
-ghost use Rattle.list_writer.specs.Gaps.{Measured};
 ghost use Rattle.shape.specs.Sizes.{IsShape, detectors_of, layer_edges_of};
 ghost use Rattle.record.specs.Records.{result as result_of};
 ghost use Rattle.record.specs.Calls.{write_result, as_result};
 
-use list_writer::{Measure, measured, put_measured};
+use list_writer::{MeasuredList, measured, put_measured};
 use number::{number_len, put_number};
 use refusal::Refusal;
 use shape::Shape;
@@ -18,50 +17,40 @@ use shape::Shape;
 // Writes a round of the result, of two lists that were measured, at the front of a buffer and answers its bytes; None, and nothing
 // written, where it has no room.
 fn put_result(
-    edges: &[u8],
-    first: Measure,
-    escapes: &[u8],
-    second: Measure,
+    edges: MeasuredList<'_>,
+    escapes: MeasuredList<'_>,
     steps: u32,
     out: &mut [u8],
 ) -> Option<usize>
-    requires measured { Measured edges.now first.bits first.ones first.len }
-    requires measured_2 { Measured escapes.now second.bits second.ones second.len }
-    ensures { put_to result out.new ≡ front out.old (result_of (as_result edges.now escapes.now steps)) }
+    ensures { put_to result out.new ≡ front out.old (result_of (as_result edges.entry.entries.now escapes.entry.entries.now steps)) }
 {
     let room = out.len();
-    if room < first.len {
+    if room < edges.len {
         return None;
     }
-    if room - first.len < second.len {
+    if room - edges.len < escapes.len {
         return None;
     }
-    if room - first.len - second.len < number_len(steps as u64) {
+    if room - edges.len - escapes.len < number_len(steps as u64) {
         return None;
     }
-    let i = put_measured(edges, first.ones, out);
-    let j = i + put_measured(escapes, second.ones, &mut out[i..]);
+    let i = put_measured(edges.entries, edges.ones, out);
+    let j = i + put_measured(escapes.entries, escapes.ones, &mut out[i..]);
     Some(j + put_number(steps as u64, &mut out[j..]).unwrap())
 }
 
 // The same from an offset on, where all tests but that for room have passed.
 fn put_from(
-    edges: &[u8],
-    first: Measure,
-    escapes: &[u8],
-    second: Measure,
+    edges: MeasuredList<'_>,
+    escapes: MeasuredList<'_>,
     steps: u32,
     out: &mut [u8],
     at: usize,
 ) -> Result<usize, Refusal>
-    requires measured { Measured edges.now first.bits first.ones first.len }
-    requires measured_2 { Measured escapes.now second.bits second.ones second.len }
     requires at_in_bounds { at ≤ length out.old }
-    ensures { written_buffered result out.new ≡ writing [] out.old at (result_of (as_result edges.now escapes.now steps)) }
+    ensures { written_buffered result out.new ≡ writing [] out.old at (result_of (as_result edges.entry.entries.now escapes.entry.entries.now steps)) }
 {
-    let count = put_result(edges, first, escapes, second, steps, &mut out[at..]).ok_or(
-        Refusal::Room,
-    )?;
+    let count = put_result(edges, escapes, steps, &mut out[at..]).ok_or(Refusal::Room)?;
     Ok(at + count)
 }
 
@@ -82,9 +71,7 @@ pub fn put_round(
     requires at_in_bounds { at ≤ length out.old }
     ensures { written_buffered result out.new ≡ write_result shape (as_result edges.now escapes.now steps) out.old at }
 {
-    let first = measured(edges);
-    let second = measured(escapes);
-    put_from(edges, first, escapes, second, steps, out, at)
+    put_from(measured(edges), measured(escapes), steps, out, at)
 }
 
 // The same for a round with no committed edge and no escaped defect: all entries are 0, and none is looked at. Every list of zeros has the
@@ -94,13 +81,13 @@ pub fn write_quiet(shape: Shape, steps: u32, out: &mut [u8], at: usize) -> Resul
     requires at_in_bounds { at ≤ length out.old }
     ensures { written_buffered result out.new ≡ write_result shape (as_result (replicate (layer_edges_of shape.model shape.height shape.distance) 0) (replicate (detectors_of shape.height shape.distance) 0) steps) out.old at }
 {
-    let none: [u8; 0] = [];
-    let first = Measure {
+    let none = MeasuredList {
+        entries: &[],
         bits: 0,
         ones: 0,
         len: 1,
     };
-    put_from(&none, first, &none, first, steps, out, at)
+    put_from(none, none, steps, out, at)
 }
 
 // Writes a round of the result from an offset on.
@@ -129,5 +116,5 @@ pub fn write_result(
     if 1 < second.bits {
         return Err(Refusal::Byte);
     }
-    put_from(edges, first, escapes, second, steps, out, at)
+    put_from(first, second, steps, out, at)
 }

@@ -32,8 +32,10 @@ module _ (l : List ℕ) (set count from : ℕ) (w : Counting l set count from) w
     whole bytes e =
         omega (arith, e, w.1, all-bytes l, ap (λ (n : ℕ). length (written n)) all_set, ap length (g.skipped 0 ∙ ap (λ (m : List ℕ). skips (0 + (length l - from)) m) none ∙ skips-nil (0 + (length l - from))))
 
-pub returns-then-bits-eq0 : goal.returns-then-bits-eq0
-returns-then-bits-eq0 c = rw c.if-bits-eq0.true (measured-zero c.args.entries.now (omega (arith, c.union-bits.ensures, c.if-bits-eq0.true)))
+pub invariant_of-result : goal.invariant_of-result
+invariant_of-result c =
+    let z = measured-zero c.args.entries.now (omega (arith, c.union-bits.ensures, c.if-bits-eq0.true)) in
+    rw c.if-bits-eq0.true (record { measured = z })
 
 pub overflow_add-len : goal.overflow_add-len
 overflow_add-len c =
@@ -51,12 +53,14 @@ overflow_add-len-2 c =
     let l = c.loop-place in
     omega (arith, whole c.args.entries.now l.ones l.len l.from l.invariant c.in_default.ensures c.number_len-len-2.result c.number_len-len-2.ensures, (length-listed c.args.entries.now).1, c.well_formed)
 
-pub returns : goal.returns
-returns c =
+pub invariant_of-result-2 : goal.invariant_of-result-2
+invariant_of-result-2 c =
     let l = c.loop-place in
     let a = c.args in
     record {
-      bits_are = c.union-bits.ensures;
-      count-is = all_set a.entries.now l.ones l.len l.from l.invariant c.in_default.ensures;
-      bytes-are = whole a.entries.now l.ones l.len l.from l.invariant c.in_default.ensures c.number_len-len-2.result c.number_len-len-2.ensures;
+      measured = record {
+        bits_are = c.union-bits.ensures;
+        count-is = all_set a.entries.now l.ones l.len l.from l.invariant c.in_default.ensures;
+        bytes-are = whole a.entries.now l.ones l.len l.from l.invariant c.in_default.ensures c.number_len-len-2.result c.number_len-len-2.ensures;
+      };
     }

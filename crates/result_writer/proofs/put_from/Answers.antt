@@ -12,7 +12,7 @@ returns-in_err-count c =
     let a = c.args in
     let p = c.put_result in
     let e : c.from_residual.result ≡ Err Room = search rules in
-    rw e (wrote_none [] a.out.now a.at c.requires.at_in_bounds (result (as_result a.edges.now a.escapes.now a.steps)) p.result p.new.out p.ensures pass-none
+    rw e (wrote_none [] a.out.now a.at c.requires.at_in_bounds (result (as_result a.edges.entries.now a.escapes.entries.now a.steps)) p.result p.new.out p.ensures pass-none
     (put_none p.result _ _ (sym c.ok_or.ensures.value ∙ c.in_err-count.was)))
 
 pub overflow_add-result : goal.overflow_add-result
@@ -20,7 +20,7 @@ overflow_add-result c =
     let a = c.args in
     let p = c.put_result in
     let h =
-    wrote-inside [] a.out.now a.at c.requires.at_in_bounds (result (as_result a.edges.now a.escapes.now a.steps)) p.result p.new.out p.ensures pass-none c.in_ok-count.count
+    wrote-inside [] a.out.now a.at c.requires.at_in_bounds (result (as_result a.edges.entries.now a.escapes.entries.now a.steps)) p.result p.new.out p.ensures pass-none c.in_ok-count.count
     (put_some p.result _ _ (sym c.ok_or.ensures.value ∙ c.in_ok-count.was)) in
     omega (arith, h, c.well_formed)
 
@@ -28,5 +28,5 @@ pub returns : goal.returns
 returns c =
     let a = c.args in
     let p = c.put_result in
-    wrote-some [] a.out.now a.at c.requires.at_in_bounds (result (as_result a.edges.now a.escapes.now a.steps)) p.result p.new.out p.ensures pass-none c.in_ok-count.count
+    wrote-some [] a.out.now a.at c.requires.at_in_bounds (result (as_result a.edges.entries.now a.escapes.entries.now a.steps)) p.result p.new.out p.ensures pass-none c.in_ok-count.count
     (put_some p.result _ _ (sym c.ok_or.ensures.value ∙ c.in_ok-count.was))

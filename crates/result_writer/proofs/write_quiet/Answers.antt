@@ -9,8 +9,8 @@ use Rattle.shape.specs.Sizes.{detectors_of, layer_edges_of}
 use Rattle.result_writer.proofs.Passing.{known, zeros-bits, zeros-long, quiet_is}
 use Rattle.result_writer.proofs.write_quiet.Goals as goal
 
-pub put_from-requires : goal.put_from-requires
-put_from-requires c = record { measured = measured-zero [] top-nil; measured_2 = measured-zero [] top-nil; at_in_bounds = c.requires.at_in_bounds }
+pub invariant_of-none : goal.invariant_of-none
+invariant_of-none c = record { measured = measured-zero [] top-nil }
 
 pub returns : goal.returns
 returns c =

@@ -1,14 +1,17 @@
 -- `result_writer::write_result` meets its contract: where all tests pass, only the room is left. Assumes nothing.
-use mathlib.Core.Path.{◌≡◌, ◌∙◌}
+use mathlib.Core.Path.{◌≡◌, refl, sym, ◌∙◌, ap}
 use mathlib.Core.Bool.{true, false}
 use mathlib.Core.List.{List, [], ◌∷◌, ◌++◌}
-use Prim.Native.Nat.{ℕ}
+use Prim.Native.Nat.{ℕ, min}
 use borrow.Author.Tests.{eq-eqb, le-leb, lt-leb}
 use lib.ListN.{length}
+use Rattle.std.specs.Prelude.{leb}
 use Rattle.refusal.specs.Tests.{Passes, Turned, pass-none, pass-one, pass-append, turn-here, turn-later, turned-after}
+use Rattle.refusal.specs.Writing.{writing}
 use Rattle.refusal.specs.declared.Refusal.{Refusal}
 use Rattle.refusal.specs.declared.Refusal.TheVariants.{Byte}
 use Rattle.list.specs.Sheet.{are_bits}
+use Rattle.list_writer.specs.Gaps.{top}
 use Rattle.list_writer.specs.Laws.{bits-told}
 use Rattle.shape.specs.Sizes.{detectors_of, layer_edges_of}
 use Rattle.shape.specs.declared.Shape.{Shape}
@@ -47,6 +50,10 @@ module _ (sh : Shape) (edges escapes : List ℕ) (n : ℕ) (e : n ≡ detectors_
         pass-one (escapes_test sh escapes).0 6 (bits edges escapes) right
         (pass-one (are_bits edges) 4 ((are_bits escapes, 4) ∷ []) k (pass-one (are_bits escapes) 4 [] m pass-none))
 
+-- the bits that were measured are those of the list that was given
+told : (l given : List ℕ) (bits : ℕ) → l ≡ given → min bits 2 ≡ min (top l) 2 → are_bits given ≡ leb bits 1
+told l given bits same h = rw (sym same) (bits-told l bits h)
+
 pub returns-then-first-gt1 : goal.returns-then-first-gt1
 returns-then-first-gt1 c =
     let a = c.args in
@@ -54,7 +61,7 @@ returns-then-first-gt1 c =
     let m = c.measured-first in
     writer-turned a.shape a.out.now a.at t.result t.ensures (more a.shape a.edges.now a.escapes.now) (result (as_result a.edges.now a.escapes.now a.steps)) c.in_ok-test_place.was Byte
     (edges-then a.shape a.edges.now a.escapes.now c.layer_edges.result c.layer_edges.ensures c.if-edges-layer_edges.false Byte
-    (wild-edges a.shape a.edges.now a.escapes.now c.detectors.result c.detectors.ensures c.if-escapes-detectors.false (bits-told a.edges.now m.result.bits m.ensures.bits_are ∙ lt-leb _ 1 c.if-first-gt1.true)))
+    (wild-edges a.shape a.edges.now a.escapes.now c.detectors.result c.detectors.ensures c.if-escapes-detectors.false (told m.result.entries.now a.edges.now m.result.bits m.ensures m.result.measured.bits_are ∙ lt-leb _ 1 c.if-first-gt1.true)))
 
 pub returns-then-second-gt1 : goal.returns-then-second-gt1
 returns-then-second-gt1 c =
@@ -64,8 +71,8 @@ returns-then-second-gt1 c =
     let n = c.measured-second in
     writer-turned a.shape a.out.now a.at t.result t.ensures (more a.shape a.edges.now a.escapes.now) (result (as_result a.edges.now a.escapes.now a.steps)) c.in_ok-test_place.was Byte
     (edges-then a.shape a.edges.now a.escapes.now c.layer_edges.result c.layer_edges.ensures c.if-edges-layer_edges.false Byte
-    (wild-escapes a.shape a.edges.now a.escapes.now c.detectors.result c.detectors.ensures c.if-escapes-detectors.false (bits-told a.edges.now m.result.bits m.ensures.bits_are ∙ le-leb _ 1 c.if-first-gt1.false)
-    (bits-told a.escapes.now n.result.bits n.ensures.bits_are ∙ lt-leb _ 1 c.if-second-gt1.true)))
+    (wild-escapes a.shape a.edges.now a.escapes.now c.detectors.result c.detectors.ensures c.if-escapes-detectors.false (told m.result.entries.now a.edges.now m.result.bits m.ensures m.result.measured.bits_are ∙ le-leb _ 1 c.if-first-gt1.false)
+    (told n.result.entries.now a.escapes.now n.result.bits n.ensures n.result.measured.bits_are ∙ lt-leb _ 1 c.if-second-gt1.true)))
 
 pub returns : goal.returns
 returns c =
@@ -73,9 +80,11 @@ returns c =
     let t = c.test_place in
     let m = c.measured-first in
     let n = c.measured-second in
+    let e : result (as_result m.result.entries.now n.result.entries.now a.steps) ≡ result (as_result a.edges.now a.escapes.now a.steps) = rw (m.ensures, n.ensures) refl in
     c.put_from.ensures
+    ∙ ap (λ (bytes : List ℕ). writing [] a.out.now a.at bytes) e
     ∙ passed (place_tests a.shape (length a.out.now) a.at ++ more a.shape a.edges.now a.escapes.now) a.out.now a.at (result (as_result a.edges.now a.escapes.now a.steps))
     (pass-append (place_tests a.shape (length a.out.now) a.at) (more a.shape a.edges.now a.escapes.now) (place-passes a.shape (length a.out.now) a.at t.result t.ensures c.in_ok-test_place.was)
     (edges-pass a.shape a.edges.now a.escapes.now c.layer_edges.result c.layer_edges.ensures c.if-edges-layer_edges.false
-    (escapes-pass a.shape a.edges.now a.escapes.now c.detectors.result c.detectors.ensures c.if-escapes-detectors.false (bits-told a.edges.now m.result.bits m.ensures.bits_are ∙ le-leb _ 1 c.if-first-gt1.false)
-    (bits-told a.escapes.now n.result.bits n.ensures.bits_are ∙ le-leb _ 1 c.if-second-gt1.false))))
+    (escapes-pass a.shape a.edges.now a.escapes.now c.detectors.result c.detectors.ensures c.if-escapes-detectors.false (told m.result.entries.now a.edges.now m.result.bits m.ensures m.result.measured.bits_are ∙ le-leb _ 1 c.if-first-gt1.false)
+    (told n.result.entries.now a.escapes.now n.result.bits n.ensures n.result.measured.bits_are ∙ le-leb _ 1 c.if-second-gt1.false))))
