@@ -40,7 +40,7 @@ pub fn round(w: Window, bytes: &[u8], edges: &mut [u8], escapes: &mut [u8]) -> G
     }
 }
 
-// stays: `round` again but for what receives the round; with that as a parameter, its five requirements would stand here, no plainer
+// stays: `round` again but for what receives the round; with that as a parameter, its requirements would stand here, no plainer
 // Receives a round of raw measurements: its defects are the places that differ from the last measured sheet, which the bytes then replace.
 #[tactic(auto, using(tested::proofs::Counted::counted), unfolding(window::specs::Calls::raw_call, window::specs::Measured::measuring))]
 pub fn raw_round(w: Window, bytes: &[u8], edges: &mut [u8], escapes: &mut [u8]) -> Given<()>

@@ -3,7 +3,7 @@
 
 ghost use Rattle.std.specs.Prelude.{◌≡◌, true, ◌&&◌, ◌+◌, ◌-◌, ◌*◌, ◌≤◌, ◌<◌, replicate};
 ghost use Rattle.shape.specs.Choice.{if};
-ghost use Rattle.shape.specs.Sizes.{IsShape, in_range, sheets_of};
+ghost use Rattle.shape.specs.Sizes.{in_range, sheets_of};
 ghost use Rattle.shape.specs.Nodes.{boundary_nodes};
 ghost use Rattle.steps.specs.Models.{of_model};
 ghost use Rattle.layers.specs.Boxes.{first as first_in, end as end_in, rows, columns, within, named};
@@ -306,7 +306,7 @@ fn fill(shape: Shape, table: &mut [u16; TABLE])
 
 // The layout of a shape.
 pub fn lay_out(shape: Shape) -> ShapeLayout
-    requires { IsShape shape }
+    requires { in_range shape.height shape.distance ≡ true }
     ensures { result.shape ≡ shape }
 {
     let sizes = sizes(shape);

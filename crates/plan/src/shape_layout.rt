@@ -1,8 +1,8 @@
 // A shape with its layout.
 #![tactic(auto)]
 
-ghost use Rattle.std.specs.Prelude.{◌≡◌};
-ghost use Rattle.shape.specs.Sizes.{IsShape};
+ghost use Rattle.std.specs.Prelude.{◌≡◌, true};
+ghost use Rattle.shape.specs.Sizes.{in_range};
 ghost use Rattle.steps.specs.Models.{of_model};
 ghost use Rattle.plan.specs.Table.{sizes_of};
 ghost use Rattle.plan.specs.Filled.{Filled};
@@ -15,7 +15,7 @@ use shape::Shape;
 pub struct ShapeLayout {
     pub shape: Shape,
     pub layout: Layout,
-    ghost range: { IsShape shape },
+    ghost range: { in_range shape.height shape.distance ≡ true },
     ghost sizes: { layout.sizes ≡ sizes_of (of_model shape.model) shape.height shape.distance },
     ghost filled: { Filled (of_model shape.model) shape.height shape.distance layout.table },
 }

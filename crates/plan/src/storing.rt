@@ -5,7 +5,6 @@ ghost use Rattle.std.specs.Prelude.{◌≡◌, ℕ, ◌+◌, ◌≤◌, ◌<◌}
 ghost use Rattle.flat.specs.Stored.{stored};
 
 // Stores n entries from x on: each is what `entry` gives of its place, counted from x.
-// stays: an offset and a number, since with the slice `array[x..x + n]` each caller's proof would go by the parts of the array (tried)
 pub fn store<T: Copy, F: Fn(usize) -> T, const N: usize>(
     x: usize,
     n: usize,

@@ -62,6 +62,7 @@ pub struct Way {
 }
 
 // What a node sees in one direction.
+// stays: the definition `seen`, under the theorems, gives this record
 #[derive(Clone, Copy)]
 pub struct Seen {
     pub there: bool,
@@ -72,6 +73,7 @@ pub struct Seen {
 }
 
 // What flooding leaves of a node.
+// stays: the definition `flooded`, under the theorems, gives this record
 #[derive(Clone, Copy)]
 pub struct Flooded {
     pub unrooted: bool,
@@ -81,6 +83,7 @@ pub struct Flooded {
 }
 
 // A node after a merging step.
+// stays: the definition `stepped`, under the theorems, gives this record
 #[derive(Clone, Copy)]
 pub struct Stepped {
     pub node: Node,
@@ -88,6 +91,7 @@ pub struct Stepped {
 }
 
 // How a run ended: at rest or not, and the count of steps made.
+// stays: the definition `ran`, under the theorems, gives this record
 #[derive(Clone, Copy)]
 pub struct Ran {
     pub window: Window,

@@ -2,7 +2,7 @@
 #![tactic(auto)]
 
 ghost use Rattle.std.specs.Prelude.{◌≡◌, List, ℕ, ◌≤◌, length};
-ghost use Rattle.shape.specs.Sizes.{detectors_of, layer_edges_of};
+ghost use Rattle.shape.specs.Sizes.{IsShape, detectors_of, layer_edges_of};
 ghost use Rattle.number.specs.Number.{written_buffered};
 ghost use Rattle.record.specs.Calls.{write_result, as_result};
 ghost use Rattle.steps.specs.Models.{of_model};
@@ -65,7 +65,8 @@ fn write_lists(
     out: &mut [u8],
     to: usize,
 ) -> Result<usize, Refusal>
-    requires { to ≤ length out.old }
+    requires shape { IsShape laid.now.shape }
+    requires to_in_bounds { to ≤ length out.old }
     ensures { written_buffered result out.new ≡ write_result laid.now.shape (as_result (committed_in laid.now.layout.table arrays.now.edges (layer_edges_of laid.now.shape.model laid.now.shape.height laid.now.shape.distance)) (escaped_in laid.now.layout.sizes laid.now.shape.height laid.now.shape.distance arrays.now.nodes) steps) out.old to }
 {
     let mut committed = [0; MAX_LAYER_EDGES];
@@ -84,7 +85,8 @@ pub fn write(
     out: &mut [u8],
     to: usize,
 ) -> Result<usize, Refusal>
-    requires { to ≤ length out.old }
+    requires shape { IsShape laid.now.shape }
+    requires to_in_bounds { to ≤ length out.old }
     ensures { (w : Window) → w.shape ≡ laid.now.shape → (marks : List ℕ) → Shows (of_model laid.now.shape.model) w (state_of arrays.now.nodes marks arrays.now.edges) → written_buffered result out.new ≡ write_result laid.now.shape (as_result (committed_edges (of_model laid.now.shape.model) w) (escaped_defects w) steps) out.old to }
 {
     if is_still(&laid.layout, arrays) {

@@ -7,7 +7,7 @@ use Rattle.machine.proofs.Packed.{none-queued, standing, grown-packed}
 use Rattle.machine.proofs.grow.Goals as goal
 
 pub lay_out-laid-requires : goal.lay_out-laid-requires
-lay_out-laid-requires c = formed-shape c.args.w c.requires
+lay_out-laid-requires c = (formed-shape c.args.w c.requires).sizes
 
 pub grow-requires-clause-none_queued : goal.grow-requires-clause-none_queued
 grow-requires-clause-none_queued c = rw c.empty-work.ensures.queued (none-queued 4608 refl)

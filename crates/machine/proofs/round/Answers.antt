@@ -16,7 +16,7 @@ use Rattle.machine.proofs.Packed.{none-outside, shown, received}
 use Rattle.machine.proofs.round.Goals as goal
 
 pub lay_out-laid-requires : goal.lay_out-laid-requires
-lay_out-laid-requires c = formed-shape c.args.w c.requires.w_value
+lay_out-laid-requires c = (formed-shape c.args.w c.requires.w_value).sizes
 
 pub fall-requires-clause-none_above : goal.fall-requires-clause-none_above
 fall-requires-clause-none_above c =

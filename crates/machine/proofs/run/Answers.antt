@@ -10,7 +10,7 @@ use Rattle.machine.proofs.Begun.{Begun, begun, some-shown, run-packed}
 use Rattle.machine.proofs.run.Goals as goal
 
 pub lay_out-laid-requires : goal.lay_out-laid-requires
-lay_out-laid-requires c = formed-shape c.args.w c.requires.w_value
+lay_out-laid-requires c = (formed-shape c.args.w c.requires.w_value).sizes
 
 pub grow_due-opened-requires-clause-lists_len : goal.grow_due-opened-requires-clause-lists_len
 grow_due-opened-requires-clause-lists_len c = (rw c.empty-work.ensures.lists (length-replicate {A = ℕ} 13824 0), rw c.empty-work.ensures.queued (none-queued 4608 refl))

@@ -6,5 +6,5 @@ pub returns : goal.returns
 returns c =
     let l = c.args.laid.now in
     let old = c.args.old.now in
-    sinks _ l.shape.height l.shape.distance l.range.sizes l.layout.sizes l.sizes l.layout.table l.filled c.args.second c.args.bytes.now old.nodes old.marks old.edges c.fall_nodes.new.nodes c.fall_marks.new.marks c.args.new.now.edges c.sink_kinds.new.edges
+    sinks _ l.shape.height l.shape.distance l.range l.layout.sizes l.sizes l.layout.table l.filled c.args.second c.args.bytes.now old.nodes old.marks old.edges c.fall_nodes.new.nodes c.fall_marks.new.marks c.args.new.now.edges c.sink_kinds.new.edges
     c.fall_nodes.ensures c.fall_marks.ensures c.sink_kinds.ensures c.requires.none_above c.requires.none_outside

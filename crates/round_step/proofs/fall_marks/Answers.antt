@@ -11,7 +11,7 @@ pub returns : goal.returns
 returns c =
     let l = c.args.laid.now in
     let z = l.layout.sizes in
-    falls-marks l.shape.height l.shape.distance l.range.sizes z.nodes z.sheet (ap (λ (z : Sizes). z.nodes) l.sizes) (ap (λ (z : Sizes). z.sheet) l.sizes) l.layout.table c.args.old.now c.args.marks.now c.sink_marks.new.marks c.fresh_marks.new.marks
+    falls-marks l.shape.height l.shape.distance l.range z.nodes z.sheet (ap (λ (z : Sizes). z.nodes) l.sizes) (ap (λ (z : Sizes). z.sheet) l.sizes) l.layout.table c.args.old.now c.args.marks.now c.sink_marks.new.marks c.fresh_marks.new.marks
     c.told-marks
     (c.sink_marks.ensures ∙ ap (λ (t : Thresholds). stored (512 + z.sheet) (λ i. lowered_by t (get_or c.args.old.now (512 + i) 0)) (z.nodes - z.sheet) c.args.marks.now) c.thresholds_of.ensures)
     c.fresh_marks.ensures

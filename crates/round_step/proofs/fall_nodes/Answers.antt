@@ -18,21 +18,21 @@ clears h d ok sheet es nodes part long e = stored-fill 512 sheet 0 nodes part (o
 pub receive-requires-clause-nodes_len : goal.receive-requires-clause-nodes_len
 receive-requires-clause-nodes_len c =
     let l = c.args.laid.now in
-    let e = clears l.shape.height l.shape.distance l.range.sizes l.layout.sizes.sheet (ap (λ (z : Sizes). z.sheet) l.sizes) c.sink_nodes.new.nodes c.fill.new.self c.sink_nodes.array_long (c.fill.ensures.after (λ y h. h)) in
+    let e = clears l.shape.height l.shape.distance l.range l.layout.sizes.sheet (ap (λ (z : Sizes). z.sheet) l.sizes) c.sink_nodes.new.nodes c.fill.new.self c.sink_nodes.array_long (c.fill.ensures.after (λ y h. h)) in
     ap length e ∙ length-stored 512 (λ i. 0) l.layout.sizes.sheet c.sink_nodes.new.nodes ∙ c.sink_nodes.array_long
 
 pub receive-requires-clause-by_index : goal.receive-requires-clause-by_index
 receive-requires-clause-by_index c =
     let l = c.args.laid.now in
     let es = ap (λ (z : Sizes). z.sheet) l.sizes in
-    clear l.shape.height l.shape.distance l.range.sizes l.layout.sizes.sheet es c.sink_nodes.new.nodes _ c.sink_nodes.array_long
-    (clears l.shape.height l.shape.distance l.range.sizes l.layout.sizes.sheet es c.sink_nodes.new.nodes c.fill.new.self c.sink_nodes.array_long (c.fill.ensures.after (λ y h. h)))
+    clear l.shape.height l.shape.distance l.range l.layout.sizes.sheet es c.sink_nodes.new.nodes _ c.sink_nodes.array_long
+    (clears l.shape.height l.shape.distance l.range l.layout.sizes.sheet es c.sink_nodes.new.nodes c.fill.new.self c.sink_nodes.array_long (c.fill.ensures.after (λ y h. h)))
 
 pub returns : goal.returns
 returns c =
     let l = c.args.laid.now in
     let es = ap (λ (z : Sizes). z.sheet) l.sizes in
-    falls-nodes l.shape.height l.shape.distance l.range.sizes l.layout.sizes.nodes l.layout.sizes.sheet (ap (λ (z : Sizes). z.nodes) l.sizes) es c.args.bytes.now c.args.old.now c.args.nodes.now c.sink_nodes.new.nodes _ c.receive.new.nodes
+    falls-nodes l.shape.height l.shape.distance l.range l.layout.sizes.nodes l.layout.sizes.sheet (ap (λ (z : Sizes). z.nodes) l.sizes) es c.args.bytes.now c.args.old.now c.args.nodes.now c.sink_nodes.new.nodes _ c.receive.new.nodes
     c.told-nodes c.sink_nodes.ensures
-    (clears l.shape.height l.shape.distance l.range.sizes l.layout.sizes.sheet es c.sink_nodes.new.nodes c.fill.new.self c.sink_nodes.array_long (c.fill.ensures.after (λ y h. h)))
+    (clears l.shape.height l.shape.distance l.range l.layout.sizes.sheet es c.sink_nodes.new.nodes c.fill.new.self c.sink_nodes.array_long (c.fill.ensures.after (λ y h. h)))
     c.receive.ensures

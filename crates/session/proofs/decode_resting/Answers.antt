@@ -21,7 +21,7 @@ use Rattle.session.proofs.decode_resting.Goals.{then-r, else-r}
 
 pub lay_out-laid-requires : goal.lay_out-laid-requires
 lay_out-laid-requires c =
-    formed-shape c.args.w c.requires.w_value
+    (formed-shape c.args.w c.requires.w_value).sizes
 
 pub rounds_on-r-requires : goal.rounds_on-r-requires
 rounds_on-r-requires c =
@@ -36,7 +36,7 @@ rounds_on-r-requires c =
     let kept = kept_by w c.requires.w_value c.well_formed.0.1.1.1.1.1.0.1.0.1 c.well_formed.0.1.1.1.1.1.1.0.1.0.1 c.well_formed.0.1.1.1.1.1.1.1.0.1.0.1 c.well_formed.0.1.1.1.1.1.1.1.1.0.1.0.1 in
     rw same
     record {
-      range = rw (← same) laid.range;
+      range = formed-shape w c.requires.w_value;
       sizes = sizes;
       filled = filled;
       long = record { of-nodes = unpacked.nodes-long; of-marks = unpacked.marks-long; of-edges = unpacked.edges-long };

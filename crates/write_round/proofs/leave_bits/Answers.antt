@@ -7,4 +7,4 @@ pub commit-requires-clause-by_index : goal.commit-requires-clause-by_index
 commit-requires-clause-by_index c =
     let l = c.args.laid.now in
     let s = l.shape in
-    λ i h. place-low s.model s.height s.distance l.range.sizes l.layout.sizes l.sizes l.layout.table l.filled i (omega (arith, c.requires.out_edges_len, h))
+    λ i h. place-low s.model s.height s.distance l.range l.layout.sizes l.sizes l.layout.table l.filled i (omega (arith, c.requires.out_edges_len, h))

@@ -11,8 +11,8 @@ returns-then-is_still c =
     λ w e marks H.
     let t = sym c.is_still.ensures ∙ c.if-is_still.true in
     written_same s c.args.steps c.args.out.now c.args.to _ _ _ _ _ c.write_quiet.ensures
-    (sym (none-committed s.model _ _ l.range.sizes l.layout.sizes l.sizes l.layout.table l.filled a.nodes a.edges t) ∙ committed-is s.model _ _ l.range.sizes l.layout.sizes l.sizes l.layout.table l.filled a.nodes a.edges s refl refl w e marks H)
-    (sym (none-escaped s.model _ _ l.range.sizes l.layout.sizes l.sizes l.layout.table l.filled a.nodes a.edges t) ∙ escaped-is s.model _ _ l.range.sizes l.layout.sizes l.sizes l.layout.table l.filled a.nodes a.edges s refl refl w e marks H)
+    (sym (none-committed s.model _ _ l.range l.layout.sizes l.sizes l.layout.table l.filled a.nodes a.edges t) ∙ committed-is s.model _ _ l.range l.layout.sizes l.sizes l.layout.table l.filled a.nodes a.edges s refl refl w e marks H)
+    (sym (none-escaped s.model _ _ l.range l.layout.sizes l.sizes l.layout.table l.filled a.nodes a.edges t) ∙ escaped-is s.model _ _ l.range l.layout.sizes l.sizes l.layout.table l.filled a.nodes a.edges s refl refl w e marks H)
 
 pub returns : goal.returns
 returns c =
@@ -21,5 +21,5 @@ returns c =
     let s = l.shape in
     λ w e marks H.
     written_same s c.args.steps c.args.out.now c.args.to _ _ _ _ _ c.write_lists.ensures
-    (committed-is s.model _ _ l.range.sizes l.layout.sizes l.sizes l.layout.table l.filled a.nodes a.edges s refl refl w e marks H)
-    (escaped-is s.model _ _ l.range.sizes l.layout.sizes l.sizes l.layout.table l.filled a.nodes a.edges s refl refl w e marks H)
+    (committed-is s.model _ _ l.range l.layout.sizes l.sizes l.layout.table l.filled a.nodes a.edges s refl refl w e marks H)
+    (escaped-is s.model _ _ l.range l.layout.sizes l.sizes l.layout.table l.filled a.nodes a.edges s refl refl w e marks H)
