@@ -7,7 +7,7 @@ use Rattle.shape.proofs.Ranges.{halves}
 use Rattle.steps.specs.Steps.{Table}
 use Rattle.window.specs.Lists.{by_place}
 use Rattle.window.specs.Window.{size, at}
-use Rattle.window.specs.Merging.{sees, flooded, floods, stepped, seen, step_at, merged}
+use Rattle.window.specs.Merging.{flooded, floods, stepped, seen, step_at, merged}
 use Rattle.window.specs.declared.Mark.{Mark}
 use Rattle.window.specs.declared.Mark.TheVariants.{Reset, Root}
 use Rattle.window.specs.declared.Seen.{Seen}

@@ -5,14 +5,13 @@ use native.Mathlib.Omega.{arith}
 use mathlib.Core.Path.{◌≡◌, refl, sym, ◌∙◌, ap, subst}
 use mathlib.Core.Bool.{Bool, true, false}
 use mathlib.Core.List.{List}
-use lib.ListN.{length, get_or, replicate, length-replicate, get_or-replicate}
+use lib.ListN.{get_or, replicate, length-replicate, get_or-replicate}
 use Rattle.shape.proofs.Ranges.{in-range}
-use Rattle.shape.specs.Sizes.{IsShape, in_range, max_nodes, max_detectors}
+use Rattle.shape.specs.Sizes.{in_range}
 use Rattle.steps.specs.Steps.{Table}
 use Rattle.steps.specs.Models.{of_model}
 use Rattle.steps.proofs.Models.{suited-model}
-use Rattle.window.specs.Window.{is_rest, max_slots, size, sheet}
-use Rattle.window.specs.Fresh.{slots-model}
+use Rattle.window.specs.Window.{is_rest, size, sheet}
 use Rattle.window.specs.Formed.{well_formed}
 use Rattle.window.specs.Round.{rounded, committed_edges, escaped_defects}
 use Rattle.window.specs.Grow.{grown}

@@ -1,6 +1,5 @@
 -- `machine::grow` meets its contract. Assumes nothing.
-use mathlib.Core.Path.{refl, ◌∙◌, ap, sym}
-use Rattle.queue.specs.Queue.{Empty}
+use mathlib.Core.Path.{refl, ◌∙◌}
 use Rattle.plan.specs.Laid.{sizes-for, filled-for}
 use Rattle.unpack.specs.GivenWindow.{formed-shape, kept_by}
 use Rattle.machine.proofs.Packed.{none-queued, standing, grown-packed}

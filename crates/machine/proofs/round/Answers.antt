@@ -1,15 +1,15 @@
 -- `machine::round` meets its contract. Assumes nothing.
 use native.Mathlib.Omega.{arith}
-use mathlib.Core.Path.{◌≡◌, refl, sym, ◌∙◌, ap, subst}
+use mathlib.Core.Path.{sym, ◌∙◌, ap, subst}
 use Rattle.flat.specs.Structs.{plan_in, state_in}
 use Rattle.shape.specs.declared.Shape.{Shape}
 use Rattle.shows.specs.Shows.{Shows}
 use Rattle.steps.specs.Models.{of_model}
 use Rattle.steps.proofs.Models.{suited-model, few-kinds}
 use Rattle.window.specs.Round.{committed_edges}
-use Rattle.round_step.specs.Falls.{NoneAbove, NoneOutside}
+use Rattle.round_step.specs.Falls.{NoneAbove}
 use Rattle.round_step.specs.LawsFalls.{none_above}
-use Rattle.shows.specs.Sinks.{second_there, Sinks}
+use Rattle.shows.specs.Sinks.{Sinks}
 use Rattle.plan.specs.Laid.{sizes-for, filled-for}
 use Rattle.unpack.specs.GivenWindow.{formed-shape, kept_by}
 use Rattle.machine.proofs.Packed.{none-outside, shown, received}

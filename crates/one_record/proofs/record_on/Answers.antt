@@ -6,15 +6,13 @@ use native.Mathlib.Omega.{arith}
 use mathlib.Core.List.{List}
 use lib.Seq.{length-take-le}
 use lib.ListN.{length, take, replicate}
-use Rattle.std.specs.Prelude.{Option, Some, Result, Ok, Err}
+use Rattle.std.specs.Prelude.{Result, Ok}
 use Rattle.refusal.specs.Answer.{done}
 use Rattle.refusal.specs.Bytes.{Bytes}
-use Rattle.refusal.specs.Writing.{buffered}
-use Rattle.refusal.specs.declared.Refusal.{Refusal}
 use Rattle.shape.proofs.LawsSizes.{detectors-le}
 use Rattle.shape.proofs.Ranges.{ranged}
-use Rattle.shape.specs.Sizes.{max_detectors, detectors_of}
-use Rattle.window.specs.LawsLists.{Fills, part-fits, part-back, part-long}
+use Rattle.shape.specs.Sizes.{max_detectors}
+use Rattle.window.specs.LawsLists.{Fills, part-back}
 use Rattle.list.specs.Sheet.{read_into}
 use Rattle.record.specs.Calls.{round_answer}
 use Rattle.decoding.specs.declared.Ending.TheVariants.{Finished, Refused}
@@ -23,7 +21,7 @@ use Rattle.flat.specs.Structs.{plan_in, state_in}
 use Rattle.decoding.specs.declared.Ending.{Ending}
 use Rattle.one_record.specs.RecordOn.{RecordOn}
 use Rattle.next_round.specs.Next.{next_round}
-use Rattle.next_round.specs.Laws.{ReadRound, next-found}
+use Rattle.next_round.specs.Laws.{next-found}
 use Rattle.one_record.proofs.Kept.{take-zeros, ended-as, none-found, one-found, read_answer, read_done, on-end, on-refused, on_read, on-ended}
 use Rattle.one_record.proofs.record_on.Goals as goal
 

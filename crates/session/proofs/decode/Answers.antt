@@ -1,7 +1,6 @@
 -- `session::decode` meets its contract: the header refused, without room, or with the rounds behind it. Assumes nothing.
 use mathlib.Core.Path.{sym, ◌∙◌, ap}
 use native.Mathlib.Omega.{arith}
-use Rattle.refusal.specs.Bytes.{Bytes}
 use Rattle.record.specs.Calls.{header_answer}
 use Rattle.decoding.specs.Answers.{line_of}
 use Rattle.session.proofs.Whole.{Put, range, header_refused, header-full, rounds-behind}
