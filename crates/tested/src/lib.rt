@@ -22,7 +22,8 @@ pub fn test_state(w: Window, staged: bool) -> Result<(), Refusal>
     Ok(())
 }
 
-// The tests of both round calls, 21 to 4, in the documents' order.
+// The tests of both round calls, 21 to 4, in the documents' order. Not inlined, so that the benchmark can tell what they take.
+#[inline(never)]
 #[tactic(auto, using(crate::proofs::Counted::counted))]
 pub fn test_round(w: Window, bytes: &[u8], edges: usize, escapes: usize) -> Result<(), Refusal>
     ensures { call_answer result ≡ unless (round_tests (of_model w.shape.model) w bytes.now edges escapes) (done tt 0) }

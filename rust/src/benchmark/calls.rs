@@ -100,7 +100,7 @@ fn ended_processes() -> i64 {
 fn instructions(load: &Load) -> bool {
     let Some(functions) = callgrind::functions(PROGRAM, script(load, &[]).as_bytes()) else { return false };
     let of = |name| taken(&functions, name);
-    let parts = [of("plan::fill"), of("unpack::unpack"), of("pack::pack")];
+    let parts = [of("plan::lay_out"), of("unpack::unpack"), of("pack::pack")];
     for (call, test, work) in
         [("round", "tested::test_round", "machine::round"), ("run", "tested::test_state", "machine::run")]
     {
