@@ -56,6 +56,17 @@ fn every_declared_function_is_called() {
     }
 }
 
+/// What a host without a C library has to bring.
+#[test]
+fn the_archive_asks_for_memcpy_and_memset_alone() {
+    let listed = Command::new("nm").arg("-u").arg(root().join("target/staticlib/libexports.a")).output();
+    let listed = listed.expect("nm can be run");
+    assert!(listed.status.success());
+    let listed = String::from_utf8(listed.stdout).expect("names are text");
+    let asked: BTreeSet<&str> = listed.lines().filter_map(|line| line.trim_start().strip_prefix("U ")).collect();
+    assert_eq!(asked, BTreeSet::from(["memcpy", "memset"]));
+}
+
 /// An example program writes these lines, which the README shows.
 fn example_writes(name: &str, expected: &str) {
     let ran = built_and_run(&format!("examples/{name}.c"), name, &["-std=c99"]);

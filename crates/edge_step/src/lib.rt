@@ -81,6 +81,7 @@ pub fn flips(
     requires count_bound { length listed.now ≤ 4608 }
     requires places { Places layout.now.sizes.nodes (length listed.now) (list_of listed.now) }
     ensures flipped { Flipped (plan_in layout.now) (state_of nodes.now [] edges.old) (length listed.now) (list_of listed.now) result edges.new }
+    ensures words_len { length words.new ≡ 4608 }
 {
     let made = gather_turns(layout, listed, nodes, edges, words);
     lay_turns(&words[..made], edges);

@@ -10,6 +10,7 @@ use number::read_number;
 use refusal::Refusal;
 
 // How many entries the list of size entries at an offset sets, and the offset behind their count.
+#[inline]
 fn read_count(src: &[u8], at: usize, size: usize) -> Result<(usize, usize), Refusal>
     ensures { reading result ≡ count_at src.now size at }
 {
@@ -21,6 +22,7 @@ fn read_count(src: &[u8], at: usize, size: usize) -> Result<(usize, usize), Refu
 }
 
 // The next entry that is set, at entry from or later, and the offset behind its skip, which is at an offset.
+#[inline]
 fn next_place(src: &[u8], at: usize, from: usize, size: usize) -> Result<(usize, usize), Refusal>
     requires { from ≤ size }
     ensures { reading result ≡ place_at src.now size from at }

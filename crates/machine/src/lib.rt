@@ -16,7 +16,7 @@ ghost use Rattle.queue.specs.Queue.{Empty};
 ghost use Rattle.grow_step.specs.Standing.{Standing};
 ghost use Rattle.machine.specs.Due.{Due};
 
-use flat::{Arrays, Layout, Work};
+use flat::{Arrays, Layout, NO_EDGE, PLANE, PLANES, Work};
 use window::{Ran, Stage, Window};
 
 // A round received with these defects: what leaves goes to the buffers, and the window is one sheet lower, with a new top sheet.
@@ -29,11 +29,16 @@ pub fn round(w: Window, bytes: &[u8], edges: &mut [u8], escapes: &mut [u8]) -> W
     requires escapes_len { length escapes.old ≡ detectors_of w.shape.height w.shape.distance }
     ensures { as_round result edges.new escapes.new ≡ receiving (of_model w.shape.model) w bytes.now }
 {
+    // written out and made first: a call would copy it, and what is made later is cleared twice
+    let mut new = Arrays {
+        nodes: [0; PLANE],
+        marks: [0; PLANE],
+        edges: [NO_EDGE; PLANES],
+    };
     let laid = plan::lay_out(w.shape);
     let second = round_step::second(w.shape, w.next);
     let old = unpack::unpack(&w, &laid);
     write_round::leave_round(&laid, &old, edges, escapes);
-    let mut new = Arrays::empty();
     round_step::fall(&laid, second, bytes, &old, &mut new);
     pack::pack(w.shape, Stage::ToGrow, w.next + 1, w.measured, &new)
 }

@@ -5,6 +5,7 @@ use mathlib.Core.Path.{◌≡◌, refl, sym, ◌∙◌, ap, subst}
 use mathlib.Core.Bool.{Bool, true}
 use mathlib.Core.List.{List, ◌∷◌}
 use Rattle.std.specs.Prelude.{Option, Some, None, Result, Ok, Err, IsErr, IsErrAnd, ok_or}
+use Rattle.std.specs.Result.{OnErr}
 use Rattle.decoding.specs.declared.Ending.{Ending}
 use lib.ListN.{length, take, replicate}
 use Rattle.refusal.specs.Answer.{Answer, done, ended, and_then, turned, code_of, without_value, value_or, itself}
@@ -46,6 +47,11 @@ take-zeros (suc n) (suc m) l = ap (λ (x : List ℕ). 0 ∷ x) (take-zeros n m (
 pub ended-as : {A : Type 0} (r : Result A Ending) (e : Ending) → IsErr r → IsErrAnd r (λ x. x ≡ e) → r ≡ Err e
 ended-as (Ok v) e i k = absurd k
 ended-as (Err x) e i k = ap Err k
+
+-- what holds in any case holds where there is an error
+pub in-case : {A P : Type 0} (r : Result A Ending) → P → OnErr r P
+in-case (Ok v) p = tt
+in-case (Err x) p = p
 
 -- what `ok_or` makes of a round that was looked for
 pub none-found : (o : Option ℕ) (e x : Ending) → ok_or o e ≡ Err x → (o ≡ None) × (x ≡ e)
@@ -148,9 +154,9 @@ module _ (P : Plan) (sh : Shape) (next : ℕ) (before : Arrays) (rides quiet : B
           each = λ w e f H. record { window = window_after answer w (turns w e f H).window; leaves = written w e f H; held = held_after w e f H };
         }
 
-    -- where it ended, what is held is as it was
-    pub on-ended : (l : Line) → answer ≡ over l → RecordOn P sh next (state_in before) rides quiet s at old from answer new next rides quiet arrays work
-    on-ended l k =
+    -- where it ended, the rule says nothing of what is held
+    pub on-ended : (next' : ℕ) (quiet' : Bool) (l : Line) → answer ≡ over l → RecordOn P sh next (state_in before) rides quiet s at old from answer new next' rides quiet' arrays work
+    on-ended next' quiet' l k =
         record {
           long = L.long;
           scratch = L.scratch;

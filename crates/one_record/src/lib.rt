@@ -2,6 +2,7 @@
 #![tactic(auto)]
 
 ghost use Rattle.std.specs.Prelude.{◌≡◌, ◌≤◌, length};
+ghost use Rattle.std.specs.Result.{OnErr};
 ghost use Rattle.shape.specs.Sizes.{IsShape};
 ghost use Rattle.decoding.specs.Answers.{record_answer};
 ghost use Rattle.flat.specs.Structs.{plan_in, state_in};
@@ -51,7 +52,8 @@ pub fn record_on(
     work: &mut Work,
 ) -> Result<(usize, usize), Ending>
     requires { Ready laid.now.shape laid.now.layout held.old.next held.old.rides held.old.quiet old.now new.old work.old }
-    ensures { RecordOn (plan_in laid.now.layout) laid.now.shape held.old.next (state_in old.now) held.old.rides held.old.quiet src.now at out.old to (record_answer result) out.new held.new.next held.new.rides held.new.quiet new.new work.new }
+    ensures recorded { RecordOn (plan_in laid.now.layout) laid.now.shape held.old.next (state_in old.now) held.old.rides held.old.quiet src.now at out.old to (record_answer result) out.new held.new.next held.new.rides held.new.quiet new.new work.new }
+    ensures kept { OnErr result (held.new ≡ held.old) }
 {
     let n = extent::detectors(laid.shape);
     let mut bytes = [0; MAX_DETECTORS];

@@ -114,10 +114,12 @@ fn say_merged(rt: &impl Print, answer: Result<Merged, Refusal>) {
 fn say_outcome(rt: &impl Print, answer: Result<Outcome, Refusal>) {
     match answer {
         Ok(Outcome::Rest(n)) => {
-            let _ = print!(rt; "rest {n} ");
+            say(rt, b"rest ");
+            let _ = print!(rt; "{n} ");
         }
         Ok(Outcome::Spent(n)) => {
-            let _ = print!(rt; "spent {n} ");
+            say(rt, b"spent ");
+            let _ = print!(rt; "{n} ");
         }
         Err(f) => say_refused(rt, f),
     }
@@ -346,12 +348,15 @@ fn command(rt: &impl Print, text: &[u8], letter: u8, w: Window) -> Window {
     }
 }
 
-// The line that a text begins with, with its end, and the window after it.
-fn line(rt: &impl Print, text: &[u8], end: usize, letter: u8, w: Window) -> Window {
-    if letter == b'#' {
-        say(rt, text.get(..end).unwrap_or(text));
-        return w;
+// Writes a line as it stands, a byte at a time: where one cannot be written, the next is tried all the same.
+fn echo(rt: &impl Print, line: &[u8]) {
+    for x in line {
+        say(rt, &[*x]);
     }
+}
+
+// The line that a text begins with, no `#` line, and the window after it.
+fn line(rt: &impl Print, text: &[u8], letter: u8, w: Window) -> Window {
     let window = command(rt, text, letter, w);
     say_window(rt, &window);
     window
@@ -385,7 +390,11 @@ fn main(rt: HostRuntime) {
             .iter()
             .position(|x| *x == b'\n')
             .map_or(text.len(), |i| i + 1);
-        window = line(&rt, text, end, *letter, window);
+        if *letter == b'#' {
+            echo(&rt, &text[..end]);
+        } else {
+            window = line(&rt, text, *letter, window);
+        }
         text = &text[end..];
     }
 }

@@ -5,6 +5,7 @@ ghost use Rattle.std.specs.Prelude.{◌≡◌, ◌<◌, length};
 ghost use Rattle.shape.specs.Sizes.{detectors_of};
 ghost use Rattle.steps.specs.Models.{of_model};
 ghost use Rattle.window.specs.Window.{max_next};
+ghost use Rattle.flat.specs.Entries.{Long};
 ghost use Rattle.flat.specs.Structs.{plan_in, state_in};
 ghost use Rattle.shows.specs.Sinks.{second_there, Sinks};
 ghost use Rattle.round_step.specs.Falls.{FallsNodes, FallsMarks, NoneOutside, NoneAbove};
@@ -46,7 +47,8 @@ pub fn fall(laid: &ShapeLayout, second: bool, bytes: &[u8], old: &Arrays, new: &
     requires bytes_len { length bytes.now ≡ detectors_of laid.now.shape.height laid.now.shape.distance }
     requires none_above { NoneAbove (of_model laid.now.shape.model) laid.now.shape.height laid.now.shape.distance old.now.edges }
     requires none_outside { NoneOutside (of_model laid.now.shape.model) laid.now.shape.height laid.now.shape.distance new.old.edges }
-    ensures { Sinks (of_model laid.now.shape.model) laid.now.shape.height laid.now.shape.distance (plan_in laid.now.layout) second bytes.now (state_in old.now) (state_in new.new) }
+    ensures long { Long new.new.nodes new.new.marks new.new.edges }
+    ensures sinks { Sinks (of_model laid.now.shape.model) laid.now.shape.height laid.now.shape.distance (plan_in laid.now.layout) second bytes.now (state_in old.now) (state_in new.new) }
 {
     fall_nodes(laid, bytes, &old.nodes, &mut new.nodes);
     fall_marks(laid, &old.marks, &mut new.marks);

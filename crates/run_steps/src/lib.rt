@@ -19,7 +19,7 @@ pub struct Reached {
 
 // How a run ended, and the work list that it stands at.
 #[derive(Clone, Copy)]
-struct Stop {
+pub struct Stop {
     reached: Reached,
     from: usize,
     listed: usize,

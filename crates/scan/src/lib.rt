@@ -23,6 +23,7 @@ pub trait Kind {
 }
 
 // The rounds of an input stream.
+#[derive(Clone, Copy)]
 pub struct InputRounds;
 
 impl Kind for InputRounds {
@@ -35,11 +36,13 @@ impl Kind for InputRounds {
 }
 
 // The rounds of a result stream.
+#[derive(Clone, Copy)]
 pub struct ResultRounds;
 
 impl Kind for ResultRounds {
     ghost kind = { ResultRound };
 
+    #[tactic(auto, using(crate::proofs::Refused::refusing))]
     fn pass(reader: &mut Reader, shape: Shape) -> Result<Option<usize>, Refusal> {
         let mut edges = [0u8; MAX_LAYER_EDGES];
         let mut escapes = [0u8; MAX_DETECTORS];

@@ -11,7 +11,7 @@ ghost use Rattle.decoding.specs.Answers.{line_of, rounds_returned, rounds_leave,
 ghost use Rattle.session.specs.Ends.{Ends};
 
 use decoding::{DecodeGiven, Ending, RoundsGiven};
-use flat::{Arrays, Work};
+use flat::{Arrays, LISTS, NO_EDGE, PLANE, PLANES, Work};
 use refusal::Refusal;
 use rounds_on::Rounds;
 use shape::Shape;
@@ -23,11 +23,24 @@ fn decode_fresh(shape: Shape, src: &[u8], at: usize, out: &mut [u8], to: usize) 
     requires { IsShape shape }
     ensures { Ends (of_model shape.model) (fresh_window (of_model shape.model) shape) src.now at out.old to (line_of result.ending) result.at result.to out.new }
 {
+    // written out and made first: a call would copy each, and what is made later is cleared twice
+    let mut first = Arrays {
+        nodes: [0; PLANE],
+        marks: [0; PLANE],
+        edges: [NO_EDGE; PLANES],
+    };
+    let mut other = Arrays {
+        nodes: [0; PLANE],
+        marks: [0; PLANE],
+        edges: [NO_EDGE; PLANES],
+    };
+    let mut work = Work {
+        lists: [0; LISTS],
+        queued: [false; PLANE],
+        words: [0; PLANE],
+    };
     let laid = plan::lay_out(shape);
-    let mut first = Arrays::empty();
     starting::own_marks(&mut first.marks, &laid.layout.table);
-    let mut other = Arrays::empty();
-    let mut work = Work::empty();
     let held = Held {
         next: extent::sheets(shape) as u32,
         rides: true,
@@ -44,11 +57,19 @@ fn decode_resting(w: Window, src: &[u8], at: usize, out: &mut [u8], to: usize) -
     requires stage_value { is_rest w.stage ≡ true }
     ensures { rounds_returned (line_of result.ending) result.window result.at result.to out.new ≡ rounds_leave (of_model w.shape.model) src.now w at out.old to }
 {
+    let mut other = Arrays {
+        nodes: [0; PLANE],
+        marks: [0; PLANE],
+        edges: [NO_EDGE; PLANES],
+    };
+    let mut work = Work {
+        lists: [0; LISTS],
+        queued: [false; PLANE],
+        words: [0; PLANE],
+    };
     let laid = plan::lay_out(w.shape);
     let mut first = unpack::unpack(&w, &laid);
     let rides = unpack::rides(&laid.layout, false, &first);
-    let mut other = Arrays::empty();
-    let mut work = Work::empty();
     let held = Held {
         next: w.next,
         rides,

@@ -16,8 +16,10 @@ pub fn fresh_marks(z: Sizes, marks: &mut [u16; PLANE], table: &[u16; TABLE])
     requires { z.sheet ≤ 240 }
     ensures { marks.new ≡ stored 512 (λ i. get_or table.now (512 + i) 0) z.sheet marks.old }
 {
-    let end = MARGIN + z.sheet;
-    marks[MARGIN..end].copy_from_slice(&table[MARGIN..end]);
+    // stays a loop: the library's copy needs memmove, which the archive has not asked of its C library
+    for (i, mark) in marks[MARGIN..MARGIN + z.sheet].iter_mut().enumerate() {
+        *mark = table[MARGIN + i];
+    }
 }
 
 // Edges with no growth, and places with no edge, as the table has them.

@@ -45,4 +45,5 @@ returns c =
     let low : c.gather_turns-made.result ≤ length c.gather_turns-made.new.words = omega (arith, t.few, t.long) in
     record {
       flipped = rw (c.lay_turns.ensures, laid-turns _ c.gather_turns-made.new.words low) (flipped-all (plan_in a.layout.now) a.nodes.now a.edges.now (length a.listed.now) (list_of a.listed.now) _ _ t c.told-edges);
+      words_len = t.long;
     }

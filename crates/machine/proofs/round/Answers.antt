@@ -30,7 +30,7 @@ fall-requires-clause-none_above c =
 pub fall-requires-clause-none_outside : goal.fall-requires-clause-none_outside
 fall-requires-clause-none_outside c =
     let o = c.lay_out-laid.result.shape in
-    rw c.empty-new.ensures.edges (none-outside (of_model o.model) (few-kinds o.model) o.height o.distance 27648 (omega arith))
+    (none-outside (of_model o.model) (few-kinds o.model) o.height o.distance 27648 (omega arith))
 
 pub returns : goal.returns
 returns c =
@@ -45,7 +45,7 @@ returns c =
     let P = plan_in laid.layout in
     let before = state_in c.unpack-old.result in
     let after = state_in c.fall.new.new in
-    let sinks = subst (λ (o : Shape). Sinks (of_model o.model) o.height o.distance P c.second-second.result c.args.bytes.now before after) same c.fall.ensures in
+    let sinks = subst (λ (o : Shape). Sinks (of_model o.model) o.height o.distance P c.second-second.result c.args.bytes.now before after) same c.fall.ensures.sinks in
     let left = c.leave_round.ensures in
     received w laid.layout.sizes sizes laid.layout.table filled kept _ _ _ c.unpack-old.ensures
     c.requires.stage_value c.args.bytes.now c.second-second.result c.second-second.ensures _ sinks c.pack.result c.pack.ensures

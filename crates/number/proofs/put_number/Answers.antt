@@ -50,26 +50,29 @@ returns-then-out-count c = sym (front-full c.args.out.now (written c.args.n) (om
 pub overflow_sub-last : goal.overflow_sub-last
 overflow_sub-last c = omega (arith, c.number_len-count.ensures, (length-written c.args.n).0)
 
+pub loop-i-init : goal.loop-i-init
+loop-i-init c = (refl, refl)
+
 pub loop-i-preserved : goal.loop-i-preserved
 loop-i-preserved c =
     let l = c.loop-i in
     let a = c.args in
-    turns a.n a.out.now l.out l.rest l.i c.number_len-count.result c.number_len-count.ensures c.if-out-count.false l.invariant (omega (arith, c.loop-i-test.true)) c.loop-i-test.true
+    turns a.n a.out.now l.out l.rest l.i c.number_len-count.result c.number_len-count.ensures c.if-out-count.false l.invariant (omega (arith, c.loop-i-test.true)) (omega (arith, c.loop-i-test.true))
 
 pub overflow_cast-out-2 : goal.overflow_cast-out-2
 overflow_cast-out-2 c =
     let l = c.loop-i in
     let a = c.args in
-    let s = small a.n a.out.now l.out l.rest l.i c.number_len-count.result c.number_len-count.ensures c.if-out-count.false l.invariant l.auto.i-end c.loop-i-test.false in omega (arith, s)
+    let s = small a.n a.out.now l.out l.rest l.i c.number_len-count.result c.number_len-count.ensures c.if-out-count.false l.invariant (omega (arith, l.auto.i-end)) (omega (arith, c.loop-i-test.false)) in omega (arith, s)
 
 pub bounds-out-last : goal.bounds-out-last
 bounds-out-last c =
     let l = c.loop-i in
     let a = c.args in
-    let s = same a.n a.out.now l.out l.rest l.i c.number_len-count.result c.number_len-count.ensures c.if-out-count.false l.invariant l.auto.i-end in omega (arith, s, c.number_len-count.ensures, (length-written a.n).0, c.if-out-count.false)
+    let s = same a.n a.out.now l.out l.rest l.i c.number_len-count.result c.number_len-count.ensures c.if-out-count.false l.invariant (omega (arith, l.auto.i-end)) in omega (arith, s, c.number_len-count.ensures, (length-written a.n).0, c.if-out-count.false)
 
 pub returns : goal.returns
 returns c =
     let l = c.loop-i in
     let a = c.args in
-    ends a.n a.out.now l.out l.rest l.i c.number_len-count.result c.number_len-count.ensures c.if-out-count.false l.invariant l.auto.i-end c.loop-i-test.false
+    ends a.n a.out.now l.out l.rest l.i c.number_len-count.result c.number_len-count.ensures c.if-out-count.false l.invariant (omega (arith, l.auto.i-end)) (omega (arith, c.loop-i-test.false))

@@ -1,8 +1,8 @@
 -- `session::decode_fresh` meets its contract: the arrays that are made hold the fresh window. Assumes nothing.
-use mathlib.Core.Path.{◌≡◌, sym, ◌∙◌, ap, subst}
+use mathlib.Core.Path.{◌≡◌, refl, sym, ◌∙◌, subst}
 use mathlib.Core.Bool.{true}
 use mathlib.Core.List.{List}
-use Prim.Native.Nat.{ℕ}
+use lib.ListN.{replicate}
 use Rattle.std.specs.Prelude.{get_or}
 use Rattle.steps.specs.Models.{of_model}
 use Rattle.window.specs.Fresh.{fresh_window}
@@ -23,21 +23,18 @@ rounds_on-requires c =
     let same = c.lay_out-laid.ensures in
     let sizes = sizes-for laid sh same in
     let filled = filled-for laid sh same in
-    let made = c.empty-first.ensures in
-    let free = c.empty-other.ensures in
-    let work = c.empty-work.ensures in
-    let marks = c.own_marks.ensures ∙ ap (λ (l : List ℕ). stored 0 (λ i. get_or laid.layout.table i 0) 4608 l) made.marks in
-    let first : Arrays = record { nodes = c.empty-first.result.nodes; marks = c.own_marks.new.marks; edges = c.empty-first.result.edges } in
+    let marks = c.own_marks.ensures in
+    let first : Arrays = record { nodes = replicate 4608 0; marks = c.own_marks.new.marks; edges = replicate 27648 3 } in
     rw same
     record {
       range = c.requires;
       sizes = sizes;
       filled = filled;
-      long = fresh-arrays sh c.requires _ sizes _ filled first made.nodes marks made.edges;
-      free = long-empty _ free.nodes free.marks free.edges;
-      outside = rw free.edges (none_made _ _ _ _ filled);
-      scratch = scratch-made _ work.lists work.queued work.words;
-      held = (fresh_window (of_model sh.model) sh, fresh-shape sh, fresh-next sh ∙ sym c.sheets.ensures, fresh-stands sh c.requires _ sizes _ filled first made.nodes marks made.edges);
+      long = fresh-arrays sh c.requires _ sizes _ filled first refl marks refl;
+      free = long-empty _ refl refl refl;
+      outside = none_made _ _ _ _ filled;
+      scratch = scratch-made _ refl refl refl;
+      held = (fresh_window (of_model sh.model) sh, fresh-shape sh, fresh-next sh ∙ sym c.sheets.ensures, fresh-stands sh c.requires _ sizes _ filled first refl marks refl);
     }
 
 pub returns : goal.returns
@@ -47,10 +44,9 @@ returns c =
     let same = c.lay_out-laid.ensures in
     let sizes = sizes-for laid sh same in
     let filled = filled-for laid sh same in
-    let made = c.empty-first.ensures in
-    let marks = c.own_marks.ensures ∙ ap (λ (l : List ℕ). stored 0 (λ i. get_or laid.layout.table i 0) 4608 l) made.marks in
-    let first : Arrays = record { nodes = c.empty-first.result.nodes; marks = c.own_marks.new.marks; edges = c.empty-first.result.edges } in
-    let held = subst (λ (o : Shape). Held (of_model o.model) (plan_in laid.layout) (fresh_window (of_model sh.model) sh) (state_in first) true true) (sym same) (fresh-stands sh c.requires _ sizes _ filled first made.nodes marks made.edges) in
+    let marks = c.own_marks.ensures in
+    let first : Arrays = record { nodes = replicate 4608 0; marks = c.own_marks.new.marks; edges = replicate 27648 3 } in
+    let held = subst (λ (o : Shape). Held (of_model o.model) (plan_in laid.layout) (fresh_window (of_model sh.model) sh) (state_in first) true true) (sym same) (fresh-stands sh c.requires _ sizes _ filled first refl marks refl) in
     let e = c.rounds_on.ensures (fresh_window (of_model sh.model) sh) (fresh-shape sh ∙ sym same) (fresh-next sh ∙ sym c.sheets.ensures) held in
     let r = c.rounds_on in
     let leaves = subst (λ (o : Shape). rounds_returned (line_of r.result.ending) e.window r.result.at r.result.to r.new.out ≡ rounds_leave (of_model o.model) c.args.src.now (fresh_window (of_model sh.model) sh) c.args.at c.args.out.now c.args.to) same e.leaves in

@@ -30,8 +30,6 @@ rounds_on-r-requires c =
     let same = c.lay_out-laid.ensures in
     let sizes = sizes-for laid w.shape same in
     let filled = filled-for laid w.shape same in
-    let free = c.empty-other.ensures in
-    let work = c.empty-work.ensures in
     let unpacked = c.unpack-first.ensures in
     let kept = kept_by w c.requires.w_value c.well_formed.0.1.1.1.1.1.0.1.0.1 c.well_formed.0.1.1.1.1.1.1.0.1.0.1 c.well_formed.0.1.1.1.1.1.1.1.0.1.0.1 c.well_formed.0.1.1.1.1.1.1.1.1.0.1.0.1 in
     rw same
@@ -40,9 +38,9 @@ rounds_on-r-requires c =
       sizes = sizes;
       filled = filled;
       long = record { of-nodes = unpacked.nodes-long; of-marks = unpacked.marks-long; of-edges = unpacked.edges-long };
-      free = long-empty _ free.nodes free.marks free.edges;
-      outside = rw free.edges (none_made _ _ _ _ filled);
-      scratch = scratch-made _ work.lists work.queued work.words;
+      free = long-empty _ refl refl refl;
+      outside = none_made _ _ _ _ filled;
+      scratch = scratch-made _ refl refl refl;
       held = (w, refl, refl, resting-starts w kept c.requires.stage_value _ sizes _ filled _ _ _ unpacked _ c.rides-rides.ensures);
     }
 

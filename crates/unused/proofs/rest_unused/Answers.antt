@@ -21,11 +21,11 @@ unfolding all
 folds f b [] = and-true b
 folds f b (x ∷ xs) = folds f (b && f x) xs ∙ regroup b (f x) (all f xs)
 
-behind : {A : Type 0} (xs : List A) (n m : ℕ) → m ≡ min n (length xs) → take (length xs - m) (drop m xs) ≡ drop n xs
-behind xs n m e = grind (arith, common_steps)
+behind : {A : Type 0} (xs : List A) (n m e : ℕ) → m ≡ min n e → e ≡ length xs → take (e - m) (drop m xs) ≡ drop n xs
+behind xs n m e p q = grind (arith, common_steps)
 
 pub returns : goal.returns
 returns g c =
     let f = g.E.Entry.is_unused in
-    fold_from_yields_List _ (λ a x. a && f x) true _ c.fold.ensures.ran (YieldsList-from_slice (drop c.args.n c.args.entries.now) (c.iter.ensures.rest ∙ behind c.args.entries.now c.args.n c.min.result c.min.ensures)) (λ a x b q k. search (rules, tests))
+    fold_from_yields_List _ (λ a x. a && f x) true _ c.fold.ensures.ran (YieldsList-from_slice (drop c.args.n c.args.entries.now) (c.iter.ensures.rest ∙ behind c.args.entries.now c.args.n c.min.result _ c.min.ensures (omega arith))) (λ a x b q k. search (rules, tests))
     ∙ folds f true (drop c.args.n c.args.entries.now)
