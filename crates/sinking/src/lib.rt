@@ -103,7 +103,7 @@ pub fn sink_edges(first: usize, z: Sizes, old: &[u8; PLANES], edges: &mut [u8; P
     let at = first + MARGIN;
     let down = at + z.sheet;
     let rest = staying(z);
-    // stays a loop: the library's copy needs memmove, which the archive has not asked of its C library
+    // stays: the library's copy of a slice needs memmove, which the archive does not ask of its C library
     for (i, edge) in edges[down..down + rest].iter_mut().enumerate() {
         *edge = old[at + i];
     }

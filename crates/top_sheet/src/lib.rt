@@ -16,7 +16,7 @@ pub fn fresh_marks(z: Sizes, marks: &mut [u16; PLANE], table: &[u16; TABLE])
     requires { z.sheet ≤ 240 }
     ensures { marks.new ≡ stored 512 (λ i. get_or table.now (512 + i) 0) z.sheet marks.old }
 {
-    // stays a loop: the library's copy needs memmove, which the archive has not asked of its C library
+    // stays: the library's copy of a slice needs memmove, which the archive does not ask of its C library
     for (i, mark) in marks[MARGIN..MARGIN + z.sheet].iter_mut().enumerate() {
         *mark = table[MARGIN + i];
     }
