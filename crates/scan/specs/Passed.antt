@@ -13,7 +13,8 @@ use Rattle.record.specs.Records.{Result}
 use Rattle.trip.specs.Fits.{detectors_in, edges_in}
 use Rattle.trip.specs.Streams.{round_of, result_of}
 
-steps-passed : (a : Answer Result) → without_value (steps_of a) ≡ without_value a
+-- the steps of a round, or all of it: what is left without the value is the same
+pub steps-passed : (a : Answer Result) → without_value (steps_of a) ≡ without_value a
 steps-passed (done r next) = refl
 steps-passed ended = refl
 steps-passed (refused e) = refl

@@ -30,7 +30,7 @@ fall-requires-clause-none_above c =
 pub fall-requires-clause-none_outside : goal.fall-requires-clause-none_outside
 fall-requires-clause-none_outside c =
     let o = c.lay_out-laid.result.shape in
-    (none-outside (of_model o.model) (few-kinds o.model) o.height o.distance 27648 (omega arith))
+    none-outside (of_model o.model) (few-kinds o.model) o.height o.distance 27648 (omega arith)
 
 pub returns : goal.returns
 returns c =
